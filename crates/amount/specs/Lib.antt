@@ -1,0 +1,4 @@
+pub mod Biased
+pub mod Laws
+pub mod Value
+pub mod Frame

@@ -1,0 +1,6 @@
+pub mod Logic
+pub mod Bytes
+pub mod Rules
+pub mod Zeros
+pub mod Same
+pub mod Frame

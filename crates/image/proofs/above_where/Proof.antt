@@ -1,0 +1,30 @@
+@IMPORTS@
+use borrow.Author.Needs.{needs}
+use Rattle.image.proofs.above_where.Statement.{statement}
+use Rattle.image.proofs.above_where.Tie as tie
+use Rattle.image.proofs.above_where.Reads as reads
+use Rattle.image.proofs.above_where.Lts as lts
+use Rattle.image.proofs.above_at.Reads as above-at-reads
+use Rattle.image.proofs.bit_of.Reads as bit-of-reads
+use Rattle.image.proofs.nothing_at.Reads as nothing-at-reads
+
+bit-of-requires : tie.Need-bit-of-requires
+bit-of-requires c κs = search needs
+
+above-at-requires : tie.Need-above-at-requires
+above-at-requires c κs = search needs
+
+nothing-at-requires : tie.Need-nothing-at-requires
+nothing-at-requires c κs = search needs
+
+returns : tie.Need-returns
+unfolding aboveWhere
+returns c = let b = c .before .before .bit-of in rw (sym (b .ensures) ∙ c .before .if1 .taken) (c .above-at .ensures)
+
+returns-2 : tie.Need-returns-2
+unfolding aboveWhere
+returns-2 c = let b = c .before .before .bit-of in rw (sym (b .ensures) ∙ c .before .if1 .left) (c .nothing-at .ensures)
+
+pub above-where-spec : {M : Type 1} → statement M
+above-where-spec =
+    tie.close (tie.spec bit-of-requires above-at-requires nothing-at-requires returns returns-2)

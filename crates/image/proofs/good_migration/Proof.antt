@@ -1,0 +1,49 @@
+@IMPORTS@
+use borrow.Author.Needs.{needs}
+use Rattle.image.proofs.good_migration.Statement.{statement}
+use Rattle.image.proofs.good_migration.Tie as tie
+use Rattle.image.proofs.good_migration.Reads as reads
+use Rattle.image.proofs.good_migration.Lts as lts
+use Rattle.image.proofs.bit_of.Reads as bit-of-reads
+use Rattle.image.proofs.both.Reads as both-reads
+use Rattle.image.proofs.either.Reads as either-reads
+use Rattle.image.proofs.zero64_at.Reads as zero64-at-reads
+use Rattle.image.proofs.zero8_at.Reads as zero8-at-reads
+
+zero8-at-requires : tie.Need-zero8-at-requires
+zero8-at-requires c κs = search needs
+
+zero64-at-requires : tie.Need-zero64-at-requires
+zero64-at-requires c κs = search needs
+
+zero64-at-requires-2 : tie.Need-zero64-at-requires-2
+zero64-at-requires-2 c κs = search needs
+
+bit-of-requires : tie.Need-bit-of-requires
+bit-of-requires c κs = search needs
+
+both-requires : tie.Need-both-requires
+both-requires c κs = search needs
+
+both-requires-2 : tie.Need-both-requires-2
+both-requires-2 c κs = search needs
+
+either-requires : tie.Need-either-requires
+either-requires c κs = search needs
+
+returns : tie.Need-returns
+unfolding goodMigration
+returns c = cc
+
+pub good-migration-spec : {M : Type 1} → statement M
+good-migration-spec =
+    tie.close
+    (tie.spec
+    zero8-at-requires
+    zero64-at-requires
+    zero64-at-requires-2
+    bit-of-requires
+    both-requires
+    both-requires-2
+    either-requires
+    returns)

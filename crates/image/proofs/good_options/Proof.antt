@@ -1,0 +1,59 @@
+@IMPORTS@
+use borrow.Author.Needs.{needs}
+use Rattle.image.proofs.good_options.Statement.{statement}
+use Rattle.image.proofs.good_options.Tie as tie
+use Rattle.image.proofs.good_options.Reads as reads
+use Rattle.image.proofs.good_options.Lts as lts
+use Rattle.image.proofs.above_where.Reads as above-where-reads
+use Rattle.image.proofs.bit_of.Reads as bit-of-reads
+use Rattle.image.proofs.both.Reads as both-reads
+use Rattle.image.proofs.either.Reads as either-reads
+use Rattle.image.proofs.good_migration.Reads as good-migration-reads
+use Rattle.image.proofs.good_pending.Reads as good-pending-reads
+use Rattle.image.proofs.zero8_at.Reads as zero8-at-reads
+
+bit-of-requires : tie.Need-bit-of-requires
+bit-of-requires c κs = search needs
+
+zero8-at-requires : tie.Need-zero8-at-requires
+zero8-at-requires c κs = search needs
+
+either-requires : tie.Need-either-requires
+either-requires c κs = search needs
+
+above-where-requires : tie.Need-above-where-requires
+above-where-requires c κs = search needs
+
+good-pending-requires : tie.Need-good-pending-requires
+good-pending-requires c κs = search needs
+
+good-migration-requires : tie.Need-good-migration-requires
+good-migration-requires c κs = search needs
+
+both-requires : tie.Need-both-requires
+both-requires c κs = search needs
+
+both-requires-2 : tie.Need-both-requires-2
+both-requires-2 c κs = search needs
+
+both-requires-3 : tie.Need-both-requires-3
+both-requires-3 c κs = search needs
+
+returns : tie.Need-returns
+unfolding goodOptions
+returns c = cc
+
+pub good-options-spec : {M : Type 1} → statement M
+good-options-spec =
+    tie.close
+    (tie.spec
+    bit-of-requires
+    zero8-at-requires
+    either-requires
+    above-where-requires
+    good-pending-requires
+    good-migration-requires
+    both-requires
+    both-requires-2
+    both-requires-3
+    returns)

@@ -1,0 +1,20 @@
+@IMPORTS@
+use borrow.Author.Needs.{needs}
+use Rattle.image.proofs.sign_at.Statement.{statement}
+use Rattle.image.proofs.sign_at.Tie as tie
+use Rattle.image.proofs.sign_at.Reads as reads
+use Rattle.image.proofs.sign_at.Lts as lts
+use Rattle.amount.proofs.read_amount.Reads as read-amount-reads
+use Rattle.amount.proofs.sign.Reads as sign-reads
+
+read-amount-requires : tie.Need-read-amount-requires
+read-amount-requires c κs = search needs
+
+sign-requires : tie.Need-sign-requires
+sign-requires c κs = search needs
+
+returns : tie.Need-returns
+returns c = c .sign .ensures ∙ rw (c .before .read-amount .ensures, biased-ofBiased)
+
+pub sign-at-spec : {M : Type 1} → statement M
+sign-at-spec = tie.close (tie.spec read-amount-requires sign-requires returns)

@@ -1,0 +1,16 @@
+@IMPORTS@
+use borrow.Author.Needs.{needs}
+use Rattle.image.proofs.zero8_at.Statement.{statement}
+use Rattle.image.proofs.zero8_at.Tie as tie
+use Rattle.image.proofs.zero8_at.Reads as reads
+use Rattle.image.proofs.zero8_at.Lts as lts
+use Rattle.fields.proofs.get8.Reads as get8-reads
+
+get8-requires : tie.Need-get8-requires
+get8-requires c κs = search needs
+
+returns : tie.Need-returns
+returns c = ap (λ (x : ℕ). eqb x 0) (c .get8 .ensures)
+
+pub zero8-at-spec : {M : Type 1} → statement M
+zero8-at-spec = tie.close (tie.spec get8-requires returns)

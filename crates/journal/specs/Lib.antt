@@ -1,0 +1,5 @@
+pub mod Calls
+pub mod Journal
+pub mod Step
+pub mod Scan
+pub mod Parts
