@@ -1,10 +1,20 @@
--- The image of 36,832 bytes: where each field stands, and what is read there.
+-- The image of 36,832 bytes, 2,302 cells of 16: where each field stands, and what is read there. Tokens are counted by their slot, address 48 first.
 use mathlib.Core.List.{List}
 use mathlib.Core.Bool.{Bool}
 use Prim.Native.Nat.{ℕ, _+_, _-_, _*_, _/_, _%_, _^_}
 use lib.Dec.{eqb}
 use Rattle.fields.specs.Bytes.{le}
 use Rattle.amount.specs.Biased.{amountAt}
+
+abbrev pub imageLength : ℕ
+imageLength = 36832
+
+abbrev pub cells : ℕ
+cells = 2302
+
+-- the place of a token's address, 48 to 63, among the 16 tokens
+abbrev pub slot : ℕ → ℕ
+slot t = t - 48
 
 -- ---- places
 abbrev pub capAt : ℕ → ℕ  -- the cap of an address
@@ -18,6 +28,9 @@ trackedKeyAt i = 1504 + 2 * i
 
 abbrev pub tokenAt : ℕ → ℕ  -- a token: kind 8 (one byte and seven zeros), toll 16
 tokenAt t = 3680 + 24 * t
+
+abbrev pub tollAt : ℕ → ℕ
+tollAt t = 3688 + 24 * t
 
 abbrev pub holdingsAt : ℕ → ℕ  -- a token's 64 holdings, and that of an address
 holdingsAt t = 4064 + 1024 * t
@@ -89,7 +102,7 @@ abbrev pub cap : List ℕ → ℕ → ℕ
 cap l a = amountAt l (capAt a)
 
 abbrev pub toll : List ℕ → ℕ → ℕ
-toll l t = amountAt l (tokenAt t + 8)
+toll l t = amountAt l (tollAt t)
 
 abbrev pub kind : List ℕ → ℕ → ℕ
 kind l t = le 8 l (tokenAt t)

@@ -1,4 +1,4 @@
-// Whether an image is good.
+// Whether an image is good: one function for each part of the definition.
 ghost use mathlib.Core.Path.{_≡_};
 ghost use mathlib.Core.Bool.{not};
 ghost use Prim.Native.Nat.{_+_, _-_, _*_, _/_, _%_, _^_, _≤_, _<_};
@@ -6,7 +6,7 @@ ghost use lib.Dec.{ltb, leb, eqb};
 ghost use lib.ListN.{length, getD};
 ghost use Rattle.fields.specs.Bytes.{le};
 ghost use Rattle.amount.specs.Biased.{amountAt, bias, signOf};
-ghost use Rattle.image.specs.Layout.{bit};
+ghost use Rattle.image.specs.Layout.{imageLength, bit};
 ghost use Rattle.fields.specs.Logic.{_and_, _or_, all};
 ghost use Rattle.image.specs.Good.{
   notNegatives,
@@ -135,7 +135,7 @@ pub fn not_negatives(s: &[u8], a: usize, n: usize) -> bool
 }
 
 fn good_addresses(s: &[u8]) -> bool
-    requires { ⌜ length (now s) ≡ 36832 ⌝ }
+    requires { ⌜ length (now s) ≡ imageLength ⌝ }
     ensures { λ r. ⌜ r ≡ goodAddresses (now (s .entry)) ⌝ }
 {
     let a = address_at(s, 2);
@@ -148,7 +148,7 @@ fn good_addresses(s: &[u8]) -> bool
 }
 
 fn good_defaults(s: &[u8]) -> bool
-    requires { ⌜ (length (now s) ≡ 36832) × (le 1 (now s) 3 < 64) ⌝ }
+    requires { ⌜ (length (now s) ≡ imageLength) × (le 1 (now s) 3 < 64) ⌝ }
     ensures { λ r. ⌜ r ≡ goodDefaults (now (s .entry)) ⌝ }
 {
     let a = above_at(s, 8);
@@ -162,7 +162,7 @@ fn good_defaults(s: &[u8]) -> bool
 }
 
 fn good_pending(s: &[u8], f: u64) -> bool
-    requires { ⌜ (length (now s) ≡ 36832) × (f ≡ le 2 (now s) 0) ⌝ }
+    requires { ⌜ (length (now s) ≡ imageLength) × (f ≡ le 2 (now s) 0) ⌝ }
     ensures { λ r. ⌜ r ≡ goodPending (now (s .entry)) ⌝ }
 {
     let a = zero8_at(s, 5);
@@ -172,7 +172,7 @@ fn good_pending(s: &[u8], f: u64) -> bool
 }
 
 fn good_migration(s: &[u8], f: u64) -> bool
-    requires { ⌜ (length (now s) ≡ 36832) × (f ≡ le 2 (now s) 0) ⌝ }
+    requires { ⌜ (length (now s) ≡ imageLength) × (f ≡ le 2 (now s) 0) ⌝ }
     ensures { λ r. ⌜ r ≡ goodMigration (now (s .entry)) ⌝ }
 {
     let a = zero8_at(s, 7);
@@ -182,7 +182,7 @@ fn good_migration(s: &[u8], f: u64) -> bool
 }
 
 fn good_options(s: &[u8], f: u64) -> bool
-    requires { ⌜ (length (now s) ≡ 36832) × (f ≡ le 2 (now s) 0) ⌝ }
+    requires { ⌜ (length (now s) ≡ imageLength) × (f ≡ le 2 (now s) 0) ⌝ }
     ensures { λ r. ⌜ r ≡ goodOptions (now (s .entry)) ⌝ }
 {
     let a = either(bit_of(f, 2), zero8_at(s, 4));
@@ -193,7 +193,7 @@ fn good_options(s: &[u8], f: u64) -> bool
 }
 
 fn good_head(s: &[u8]) -> bool
-    requires { ⌜ length (now s) ≡ 36832 ⌝ }
+    requires { ⌜ length (now s) ≡ imageLength ⌝ }
     ensures { λ r. ⌜ r ≡ goodHead (now (s .entry)) ⌝ }
 {
     let f = fields::get16(s, 0) as u64;
@@ -210,7 +210,7 @@ fn good_head(s: &[u8]) -> bool
 }
 
 fn good_caps(s: &[u8]) -> bool
-    requires { ⌜ length (now s) ≡ 36832 ⌝ }
+    requires { ⌜ length (now s) ≡ imageLength ⌝ }
     ensures { λ r. ⌜ r ≡ all (goodCap (now (s .entry))) 64 ⌝ }
 {
     let set = fields::get64(s, 80);
@@ -225,7 +225,7 @@ fn good_caps(s: &[u8]) -> bool
 }
 
 fn fresh_keys(s: &[u8], n: usize) -> bool
-    requires { ⌜ (length (now s) ≡ 36832) × (n ≤ 1088) ⌝ }
+    requires { ⌜ (length (now s) ≡ imageLength) × (n ≤ 1088) ⌝ }
     ensures { λ r. ⌜ r ≡ all (freshKey (now (s .entry))) n ⌝ }
 {
     let mut seen = [0u8; 1088];
@@ -245,7 +245,7 @@ fn fresh_keys(s: &[u8], n: usize) -> bool
 }
 
 fn good_keys(s: &[u8]) -> bool
-    requires { ⌜ length (now s) ≡ 36832 ⌝ }
+    requires { ⌜ length (now s) ≡ imageLength ⌝ }
     ensures { λ r. ⌜ r ≡ goodKeys (now (s .entry)) ⌝ }
 {
     let n = fields::get64(s, 88);
@@ -253,11 +253,14 @@ fn good_keys(s: &[u8]) -> bool
         return false;
     }
     let m = n as usize;
-    both(fresh_keys(s, m), fields::are_zero(s, 1504 + 2 * m, 2176 - 2 * m))
+    both(
+        fresh_keys(s, m),
+        fields::are_zero(s, 1504 + 2 * m, 2176 - 2 * m),
+    )
 }
 
 fn good_snapshot(s: &[u8], t: usize) -> bool
-    requires { ⌜ (length (now s) ≡ 36832) × (t < 16) ⌝ }
+    requires { ⌜ (length (now s) ≡ imageLength) × (t < 16) ⌝ }
     ensures { λ r. ⌜ r ≡ goodSnapshot (now (s .entry)) t ⌝ }
 {
     let at = 1120 + 24 * t;
@@ -268,10 +271,10 @@ fn good_snapshot(s: &[u8], t: usize) -> bool
 }
 
 fn good_absent(s: &[u8], t: usize) -> bool
-    requires { ⌜ (length (now s) ≡ 36832) × (t < 16) ⌝ }
+    requires { ⌜ (length (now s) ≡ imageLength) × (t < 16) ⌝ }
     ensures { λ r. ⌜ r ≡ goodAbsent (now (s .entry)) t ⌝ }
 {
-    let a = nothing_at(s, 3680 + 24 * t + 8);
+    let a = nothing_at(s, 3688 + 24 * t);
     let p = fields::get32(s, 1120 + 24 * t) as u64;
     let h = fields::are_zero(s, 4064 + 1024 * t, 1024);
     let c = fields::are_zero(s, 20448 + 1024 * t, 1024);
@@ -279,17 +282,17 @@ fn good_absent(s: &[u8], t: usize) -> bool
 }
 
 fn good_present(s: &[u8], t: usize) -> bool
-    requires { ⌜ (length (now s) ≡ 36832) × (t < 16) ⌝ }
+    requires { ⌜ (length (now s) ≡ imageLength) × (t < 16) ⌝ }
     ensures { λ r. ⌜ r ≡ goodPresent (now (s .entry)) t ⌝ }
 {
-    let a = not_negative_at(s, 3680 + 24 * t + 8);
+    let a = not_negative_at(s, 3688 + 24 * t);
     let h = not_negatives(s, 4064 + 1024 * t, 64);
     let c = not_negatives(s, 20448 + 1024 * t, 64);
     both(a, both(h, c))
 }
 
 fn good_token(s: &[u8], t: usize) -> bool
-    requires { ⌜ (length (now s) ≡ 36832) × (t < 16) ⌝ }
+    requires { ⌜ (length (now s) ≡ imageLength) × (t < 16) ⌝ }
     ensures { λ r. ⌜ r ≡ goodToken (now (s .entry)) t ⌝ }
 {
     let k = fields::get64(s, 3680 + 24 * t);
@@ -303,7 +306,7 @@ fn good_token(s: &[u8], t: usize) -> bool
 }
 
 fn good_tokens(s: &[u8]) -> bool
-    requires { ⌜ length (now s) ≡ 36832 ⌝ }
+    requires { ⌜ length (now s) ≡ imageLength ⌝ }
     ensures { λ r. ⌜ r ≡ all (goodToken (now (s .entry))) 16 ⌝ }
 {
     let mut t = 0;

@@ -1,4 +1,4 @@
-@IMPORTS@
+use Rattle.image.specs.Laws.{sign-two}
 use borrow.Author.Needs.{needs}
 use Rattle.image.proofs.above_at.Statement.{statement}
 use Rattle.image.proofs.above_at.Tie as tie

@@ -1,4 +1,5 @@
-@IMPORTS@
+use mathlib.Core.Path.{sym, _∙_}
+use Rattle.image.specs.Good.{aboveWhere}
 use borrow.Author.Needs.{needs}
 use Rattle.image.proofs.above_where.Statement.{statement}
 use Rattle.image.proofs.above_where.Tie as tie

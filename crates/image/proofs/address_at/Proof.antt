@@ -1,4 +1,6 @@
-@IMPORTS@
+use mathlib.Core.Path.{ap}
+use Prim.Native.Nat.{ℕ}
+use lib.Dec.{ltb}
 use borrow.Author.Needs.{needs}
 use Rattle.image.proofs.address_at.Statement.{statement}
 use Rattle.image.proofs.address_at.Tie as tie

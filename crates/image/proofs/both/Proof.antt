@@ -1,4 +1,4 @@
-@IMPORTS@
+use Rattle.fields.specs.Logic.{_and_}
 use borrow.Author.Needs.{needs}
 use Rattle.image.proofs.both.Statement.{statement}
 use Rattle.image.proofs.both.Tie as tie

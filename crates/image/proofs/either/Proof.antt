@@ -1,4 +1,4 @@
-@IMPORTS@
+use Rattle.fields.specs.Logic.{_or_}
 use borrow.Author.Needs.{needs}
 use Rattle.image.proofs.either.Statement.{statement}
 use Rattle.image.proofs.either.Tie as tie

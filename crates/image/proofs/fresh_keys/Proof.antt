@@ -1,4 +1,10 @@
-@IMPORTS@
+use mathlib.Core.Path.{_≡_}
+use mathlib.Core.Bool.{true}
+use Prim.Native.Nat.{_-_, _≤_}
+use lib.ListN.{length}
+use Rattle.fields.specs.Logic.{all, all-none, all-step, all-stop, all-end}
+use Rattle.image.specs.Good.{freshKey}
+use Rattle.image.specs.Laws.{Seen, seen-none, seen-step, stale-far, stale-seen, fresh-new}
 use borrow.Author.Needs.{needs}
 use Rattle.image.proofs.fresh_keys.Statement.{statement}
 use Rattle.image.proofs.fresh_keys.Tie as tie

@@ -1,4 +1,4 @@
-@IMPORTS@
+use Rattle.image.specs.Good.{goodAbsent}
 use borrow.Author.Needs.{needs}
 use Rattle.image.proofs.good_absent.Statement.{statement}
 use Rattle.image.proofs.good_absent.Tie as tie
@@ -15,9 +15,6 @@ mul-nothing-at c = search needs
 
 add-nothing-at : tie.Need-add-nothing-at
 add-nothing-at c = search needs
-
-add-nothing-at-2 : tie.Need-add-nothing-at-2
-add-nothing-at-2 c = search needs
 
 nothing-at-requires : tie.Need-nothing-at-requires
 nothing-at-requires c κs = search needs
@@ -74,7 +71,6 @@ good-absent-spec =
     (tie.spec
     mul-nothing-at
     add-nothing-at
-    add-nothing-at-2
     nothing-at-requires
     mul-get32
     add-get32

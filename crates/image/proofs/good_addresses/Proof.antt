@@ -1,4 +1,4 @@
-@IMPORTS@
+use Rattle.image.specs.Good.{goodAddresses}
 use borrow.Author.Needs.{needs}
 use Rattle.image.proofs.good_addresses.Statement.{statement}
 use Rattle.image.proofs.good_addresses.Tie as tie

@@ -1,4 +1,9 @@
-@IMPORTS@
+use Prim.Native.Nat.{_≤_, _<_}
+use native.Mathlib.Omega.{arith}
+use borrow.Author.Tests.{le-leb, lt-leb}
+use Rattle.fields.specs.Logic.{false-and, true-and}
+use Rattle.fields.specs.Bytes.{le}
+use Rattle.image.specs.Good.{goodDefaults}
 use borrow.Author.Needs.{needs}
 use Rattle.image.proofs.good_defaults.Statement.{statement}
 use Rattle.image.proofs.good_defaults.Tie as tie

@@ -1,4 +1,13 @@
-@IMPORTS@
+use mathlib.Core.Path.{_≡_, sym, ap, _∙_}
+use mathlib.Core.Bool.{true, false}
+use Prim.Native.Nat.{ℕ, _/_, _%_, _^_, _≤_, _<_}
+use native.Mathlib.Omega.{arith}
+use borrow.Author.Tests.{lt-ltb, le-ltb, not-true, not-false}
+use lib.Dec.{eqb}
+use Rattle.fields.specs.Logic.{false-and, true-and}
+use Rattle.fields.specs.Bytes.{le}
+use Rattle.image.specs.Good.{goodAddresses, goodHead}
+use Rattle.image.specs.Laws.{token-address}
 use borrow.Author.Needs.{needs}
 use Rattle.image.proofs.good_head.Statement.{statement}
 use Rattle.image.proofs.good_head.Tie as tie

@@ -1,4 +1,6 @@
-@IMPORTS@
+use borrow.Author.Tests.{le-leb, lt-leb}
+use Rattle.fields.specs.Logic.{false-and, true-and}
+use Rattle.image.specs.Good.{goodKeys}
 use borrow.Author.Needs.{needs}
 use Rattle.image.proofs.good_keys.Statement.{statement}
 use Rattle.image.proofs.good_keys.Tie as tie

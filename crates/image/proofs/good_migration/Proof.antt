@@ -1,4 +1,4 @@
-@IMPORTS@
+use Rattle.image.specs.Good.{goodMigration}
 use borrow.Author.Needs.{needs}
 use Rattle.image.proofs.good_migration.Statement.{statement}
 use Rattle.image.proofs.good_migration.Tie as tie

@@ -1,4 +1,4 @@
-@IMPORTS@
+use Rattle.image.specs.Good.{goodOptions}
 use borrow.Author.Needs.{needs}
 use Rattle.image.proofs.good_options.Statement.{statement}
 use Rattle.image.proofs.good_options.Tie as tie

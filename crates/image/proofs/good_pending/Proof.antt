@@ -1,4 +1,4 @@
-@IMPORTS@
+use Rattle.image.specs.Good.{goodPending}
 use borrow.Author.Needs.{needs}
 use Rattle.image.proofs.good_pending.Statement.{statement}
 use Rattle.image.proofs.good_pending.Tie as tie

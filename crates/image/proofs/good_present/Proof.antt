@@ -1,4 +1,4 @@
-@IMPORTS@
+use Rattle.image.specs.Good.{goodPresent}
 use borrow.Author.Needs.{needs}
 use Rattle.image.proofs.good_present.Statement.{statement}
 use Rattle.image.proofs.good_present.Tie as tie
@@ -13,9 +13,6 @@ mul-not-negative-at c = search needs
 
 add-not-negative-at : tie.Need-add-not-negative-at
 add-not-negative-at c = search needs
-
-add-not-negative-at-2 : tie.Need-add-not-negative-at-2
-add-not-negative-at-2 c = search needs
 
 not-negative-at-requires : tie.Need-not-negative-at-requires
 not-negative-at-requires c κs = search needs
@@ -54,7 +51,6 @@ good-present-spec =
     (tie.spec
     mul-not-negative-at
     add-not-negative-at
-    add-not-negative-at-2
     not-negative-at-requires
     mul-not-negatives
     add-not-negatives

@@ -1,4 +1,4 @@
-@IMPORTS@
+use Rattle.image.specs.Good.{goodSnapshot}
 use borrow.Author.Needs.{needs}
 use Rattle.image.proofs.good_snapshot.Statement.{statement}
 use Rattle.image.proofs.good_snapshot.Tie as tie

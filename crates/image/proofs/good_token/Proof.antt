@@ -1,4 +1,9 @@
-@IMPORTS@
+use mathlib.Core.Path.{_≡_}
+use Prim.Native.Nat.{_+_, _*_}
+use native.Mathlib.Omega.{arith}
+use borrow.Author.Tests.{eq-eqb, ne-eqb}
+use Rattle.fields.specs.Bytes.{le}
+use Rattle.image.specs.Good.{goodToken}
 use borrow.Author.Needs.{needs}
 use Rattle.image.proofs.good_token.Statement.{statement}
 use Rattle.image.proofs.good_token.Tie as tie

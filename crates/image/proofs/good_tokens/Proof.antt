@@ -1,4 +1,9 @@
-@IMPORTS@
+use mathlib.Core.Path.{_≡_, sym, _∙_}
+use mathlib.Core.Bool.{true}
+use Prim.Native.Nat.{_-_, _≤_}
+use borrow.Author.Tests.{not-true, not-false}
+use Rattle.fields.specs.Logic.{all, all-none, all-step, all-stop, all-end}
+use Rattle.image.specs.Good.{goodToken}
 use borrow.Author.Needs.{needs}
 use Rattle.image.proofs.good_tokens.Statement.{statement}
 use Rattle.image.proofs.good_tokens.Tie as tie

@@ -1,4 +1,4 @@
-@IMPORTS@
+use Rattle.image.specs.Laws.{sign-some}
 use borrow.Author.Needs.{needs}
 use Rattle.image.proofs.not_negative_at.Statement.{statement}
 use Rattle.image.proofs.not_negative_at.Tie as tie

@@ -1,4 +1,9 @@
-@IMPORTS@
+use mathlib.Core.Path.{sym}
+use Prim.Native.Nat.{ℕ, _+_, _-_, _*_, _≤_, _<_}
+use native.Mathlib.Omega.{arith}
+use borrow.Author.Count.{below-more}
+use Rattle.amount.specs.Biased.{bias, amountAt}
+use Rattle.image.specs.Laws.{notNegatives-from, sign-off, sign-on, not-negatives-stop}
 use borrow.Author.Needs.{needs}
 use Rattle.image.proofs.not_negatives.Statement.{statement}
 use Rattle.image.proofs.not_negatives.Tie as tie

@@ -1,4 +1,4 @@
-@IMPORTS@
+use Rattle.image.specs.Laws.{sign-one}
 use borrow.Author.Needs.{needs}
 use Rattle.image.proofs.nothing_at.Statement.{statement}
 use Rattle.image.proofs.nothing_at.Tie as tie

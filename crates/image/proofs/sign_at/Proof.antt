@@ -1,4 +1,4 @@
-@IMPORTS@
+use mathlib.Core.Path.{_∙_}
 use borrow.Author.Needs.{needs}
 use Rattle.image.proofs.sign_at.Statement.{statement}
 use Rattle.image.proofs.sign_at.Tie as tie
@@ -14,7 +14,7 @@ sign-requires : tie.Need-sign-requires
 sign-requires c κs = search needs
 
 returns : tie.Need-returns
-returns c = c .sign .ensures ∙ rw (c .before .read-amount .ensures, biased-ofBiased)
+returns c = rw (c .before .read-amount .ensures) at (c .sign .ensures)
 
 pub sign-at-spec : {M : Type 1} → statement M
 sign-at-spec = tie.close (tie.spec read-amount-requires sign-requires returns)

@@ -1,0 +1,83 @@
+-- The book at the opening, and the book after an operation, from what the operation does to the image.
+use mathlib.Core.Path.{_≡_, refl, sym, ap, _∙_}
+use mathlib.Core.List.{List}
+use Prim.Native.Nat.{ℕ, zero, suc, _+_, _-_, _≤_, _<_}
+use native.Mathlib.Decide.{ℕ-discrete}
+use lib.Seq.{getD-set-same, getD-set-other}
+use native.Mathlib.Omega.{arith}
+use lib.ListN.{length, getD, set, length-set}
+use Rattle.image.specs.Layout.{slot, tollAt, holdingAt, defaultToken, destination, hasMigration}
+use Rattle.amount.specs.Frame.{same-amountAt}
+use Rattle.amount.specs.Biased.{bias}
+use Rattle.fields.specs.Frame.{Agree, part}
+use Rattle.fields.specs.Rules.{is}
+use Rattle.book.specs.Moves.{Moves}
+use Rattle.book.specs.Book.{Book, table, vaultHolding, tollValue, openBook, change, net, adds, takes, BookIs}
+
+table-length : (f : ℕ → ℕ) (n i : ℕ) → length (table f n i) ≡ n
+unfolding table
+table-length f zero i = refl
+table-length f (suc n) i = ap suc (table-length f n (suc i))
+
+table-at : (f : ℕ → ℕ) (n i t : ℕ) → t < n → getD (table f n i) t 0 ≡ f (i + t)
+unfolding table
+table-at f zero i t h = absurd (omega arith)
+table-at f (suc n) i zero h = ap f (omega arith)
+table-at f (suc n) i (suc t) h = table-at f n (suc i) t (omega arith) ∙ ap f (omega arith)
+
+pub opens : (x : List ℕ) → BookIs (openBook x) x
+unfolding openBook
+opens x =
+    record {
+      sixteen = table-length (vaultHolding x) 16 0;
+      numbered = λ t h. table-at (vaultHolding x) 16 0 t h ∙ ap (vaultHolding x) (omega arith);
+      tolled = λ t h. table-at (tollValue x) 16 0 t h ∙ ap (tollValue x) (omega arith);
+      default = refl;
+      migrating = λ i. refl;
+    }
+
+-- ---- an operation that moves money of one token
+module _ (b : Book) {t new : ℕ} {l m : List ℕ} (is : BookIs b l) (v : Moves t new l m) (low : 48 ≤ t) (high : t < 64) where
+  pub changed : (f : ℕ → ℕ) → new - bias ≡ f (vaultHolding l (slot t)) → BookIs (change f t b) m
+  unfolding change
+  changed f e =
+      record {
+        sixteen = simp length-set (is .sixteen);
+        numbered = λ u h. at u h (ℕ-discrete u (slot t));
+        tolled = λ u h. is .tolled u h ∙ ap (λ (k : ℕ). k - bias) (sym (v .tolls u h));
+        default = is .default ∙ sym (v .token);
+        migrating = λ i. is .migrating (rw (v .flagged) at i) ∙ sym (v .to);
+      }
+    where
+      at : (u : ℕ) → u < 16 → Dec (u ≡ slot t) → getD (set (b .numbers) (slot t) (f (getD (b .numbers) (slot t) 0))) u 0 ≡ vaultHolding m u
+      at u h (yes p) =
+          let n = is .sixteen in
+          rw p (getD-set-same (b .numbers) (slot t) _ 0 (omega arith) ∙ (ap f (is .numbered (slot t) (omega arith)) ∙ (sym e ∙ ap (λ (k : ℕ). k - bias) (sym (v .this)))))
+      at u h (no p) = getD-set-other (b .numbers) (slot t) u _ 0 p ∙ (is .numbered u h ∙ ap (λ (k : ℕ). k - bias) (sym (v .other u h p)))
+
+  pub added : (n : ℕ) → new - bias ≡ vaultHolding l (slot t) + (n - tollValue l (slot t)) → BookIs (adds t n b) m
+  unfolding adds net
+  added n e =
+      let k : getD (b .tolls) (slot t) 0 ≡ tollValue l (slot t) = is .tolled (slot t) (omega arith) in
+      changed (λ h. h + (n - getD (b .tolls) (slot t) 0)) (rw k e)
+
+  pub taken : (n : ℕ) → new - bias ≡ vaultHolding l (slot t) - n → BookIs (takes t n b) m
+  unfolding takes
+  taken n e = changed (λ h. h - n) e
+
+-- ---- an operation that moves none
+module _ (b : Book) {l m : List ℕ} (is : BookIs b l) (a : Agree 3680 16768 l m) where
+  pub unmoved : (token to : ℕ) → token ≡ defaultToken m → (hasMigration m ≡ 1 → to ≡ destination m)
+      → BookIs (record { numbers = b .numbers; tolls = b .tolls; token = token; destination = to }) m
+  unmoved token to e f =
+      record {
+        sixteen = is .sixteen;
+        numbered = λ u h. is .numbered u h ∙ ap (λ (k : ℕ). k - bias) (sym (same-amountAt (holdingAt u 1) (part (holdingAt u 1) 16 a (omega arith) (omega arith))));
+        tolled = λ u h. is .tolled u h ∙ ap (λ (k : ℕ). k - bias) (sym (same-amountAt (tollAt u) (part (tollAt u) 16 a (omega arith) (omega arith))));
+        default = e;
+        migrating = f;
+      }
+
+  -- default token, destination and its flag as they were
+  pub settled : defaultToken m ≡ defaultToken l → (hasMigration m ≡ 1 → (hasMigration l ≡ 1) × (destination m ≡ destination l)) → BookIs b m
+  settled e f = unmoved (b .token) (b .destination) (is .default ∙ sym e) (λ i. let (h, d) = f i in is .migrating h ∙ sym d)

@@ -1,0 +1,1 @@
+// The book of demand 3: definitions and laws only, in specs/.

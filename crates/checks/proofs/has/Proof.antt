@@ -1,0 +1,17 @@
+use mathlib.Core.Path.{refl}
+use Rattle.checks.specs.Checks.{member}
+use borrow.Author.Needs.{needs}
+use Rattle.checks.proofs.has.Statement.{statement}
+use Rattle.checks.proofs.has.Tie as tie
+use Rattle.checks.proofs.has.Reads as reads
+use Rattle.checks.proofs.has.Lts as lts
+
+shr-result : tie.Need-shr-result
+shr-result c = search needs
+
+returns : tie.Need-returns
+unfolding member
+returns c = refl
+
+pub has-spec : {M : Type 1} → statement M
+has-spec = tie.close (tie.spec shr-result returns)

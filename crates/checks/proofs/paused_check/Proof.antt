@@ -1,0 +1,24 @@
+use Rattle.checks.specs.Checks.{pausedNumber}
+use Rattle.fields.specs.Rules.{stop-at}
+use native.Mathlib.Omega.{arith}
+use mathlib.Core.Path.{refl}
+use borrow.Author.Needs.{needs}
+use Rattle.checks.proofs.paused_check.Statement.{statement}
+use Rattle.checks.proofs.paused_check.Tie as tie
+use Rattle.checks.proofs.paused_check.Reads as reads
+use Rattle.checks.proofs.paused_check.Lts as lts
+use Rattle.checks.proofs.flag_of.Reads as flag-of-reads
+
+flag-of-requires : tie.Need-flag-of-requires
+flag-of-requires c κs = search needs
+
+returns : tie.Need-returns
+unfolding pausedNumber
+returns c = stop-at _ 0 _ (omega arith) refl
+
+returns-2 : tie.Need-returns-2
+unfolding pausedNumber
+returns-2 c = stop-at _ 1 _ (omega arith) refl
+
+pub paused-check-spec : {M : Type 1} → statement M
+paused-check-spec = tie.close (tie.spec flag-of-requires returns returns-2)

@@ -1,0 +1,52 @@
+use Rattle.record.specs.Laws.{caller-below}
+use Rattle.record.specs.Form.{readsCaller, member}
+use native.Mathlib.Omega.{arith}
+use mathlib.Core.Path.{refl}
+use borrow.Author.Needs.{needs}
+use Rattle.deposits.proofs.deposit.Statement.{statement}
+use Rattle.deposits.proofs.deposit.Tie as tie
+use Rattle.deposits.proofs.deposit.Reads as reads
+use Rattle.deposits.proofs.deposit.Lts as lts
+use Rattle.deposits.proofs.deposit_of.Reads as deposit-of-reads
+use Rattle.record.proofs.amount.Reads as amount-reads
+use Rattle.record.proofs.caller.Reads as caller-reads
+use Rattle.record.proofs.sequence.Reads as sequence-reads
+use Rattle.record.proofs.signers.Reads as signers-reads
+
+caller-requires : tie.Need-caller-requires
+caller-requires c κs = search needs
+
+signers-requires : tie.Need-signers-requires
+signers-requires c κs = search needs
+
+sequence-requires : tie.Need-sequence-requires
+sequence-requires c κs = search needs
+
+amount-requires : tie.Need-amount-requires
+amount-requires c κs = search needs
+
+deposit-of-requires : tie.Need-deposit-of-requires
+unfolding readsCaller member
+deposit-of-requires c κs = let s = c .before .before .before .before .before .before .before .before .before in let f = s .pre .1 in (s .pre .0, omega (arith, caller-below (s .args .rec .now) 2 (f .formed) (f .operation) refl), s .pre .2)
+
+same-length : tie.Need-same-length
+same-length c = search needs
+
+same-length-2 : tie.Need-same-length-2
+same-length-2 c = search needs
+
+returns : tie.Need-returns
+returns c = rw (c .before .before .before .before .before .before .before .before .before .before .caller .ensures, c .before .before .before .before .before .before .before .before .before .signers .ensures, c .before .before .before .before .before .before .before .before .sequence .ensures, c .before .before .before .before .before .amount .ensures) at (c .before .before .before .before .deposit-of .ensures)
+
+pub deposit-spec : {M : Type 1} → statement M
+deposit-spec =
+    tie.close
+    (tie.spec
+    caller-requires
+    signers-requires
+    sequence-requires
+    amount-requires
+    deposit-of-requires
+    same-length
+    same-length-2
+    returns)

@@ -1,0 +1,47 @@
+use borrow.Author.Needs.{needs}
+use Rattle.deposits.proofs.settle.Statement.{statement}
+use Rattle.deposits.proofs.settle.Tie as tie
+use Rattle.deposits.proofs.settle.Reads as reads
+use Rattle.deposits.proofs.settle.Lts as lts
+use Rattle.deposits.proofs.add_credit.Reads as add-credit-reads
+use Rattle.events.proofs.deposited.Reads as deposited-reads
+use Rattle.events.proofs.put_event.Reads as put-event-reads
+use Rattle.storage.proofs.record_vault_balance.Reads as record-vault-balance-reads
+use Rattle.token.proofs.balance.Reads as balance-reads
+
+balance-requires : tie.Need-balance-requires
+balance-requires c κs = search needs
+
+add-credit-requires : tie.Need-add-credit-requires
+add-credit-requires c κs = search needs
+
+record-vault-balance-requires : tie.Need-record-vault-balance-requires
+record-vault-balance-requires c κs = search needs
+
+deposited-requires : tie.Need-deposited-requires
+deposited-requires c κs = search needs
+
+put-event-requires : tie.Need-put-event-requires
+put-event-requires c κs = search needs
+
+same-length : tie.Need-same-length
+same-length c = search needs
+
+same-length-2 : tie.Need-same-length-2
+same-length-2 c = search needs
+
+returns : tie.Need-returns
+returns c = (rw (c .before .before .before .before .before .before .before .record-vault-balance .ensures, c .before .before .before .before .before .before .before .before .before .before .before .add-credit .ensures, c .before .before .before .before .before .before .before .before .before .before .before .before .before .balance .ensures), rw (c .before .before .put-event .ensures, c .before .before .before .deposited .ensures, c .before .before .before .before .before .before .before .before .before .before .before .before .before .balance .ensures))
+
+pub settle-spec : {M : Type 1} → statement M
+settle-spec =
+    tie.close
+    (tie.spec
+    balance-requires
+    add-credit-requires
+    record-vault-balance-requires
+    deposited-requires
+    put-event-requires
+    same-length
+    same-length-2
+    returns)

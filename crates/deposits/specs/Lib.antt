@@ -1,0 +1,3 @@
+pub mod Deposit
+pub mod Laws
+pub mod Moved

@@ -1,0 +1,15 @@
+-- `record::either` meets its contract.
+use Rattle.fields.specs.Logic.{_or_}
+use Rattle.record.proofs.either.Statement.{statement}
+use Rattle.record.proofs.either.Tie as tie
+
+returns : tie.Need-returns
+unfolding _or_
+returns c = rw (c .if1 .taken)
+
+returns-2 : tie.Need-returns-2
+unfolding _or_
+returns-2 c = rw (c .if1 .left)
+
+pub either-spec : {M : Type 1} → statement M
+either-spec = tie.close (tie.spec returns returns-2)

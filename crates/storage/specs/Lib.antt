@@ -1,0 +1,11 @@
+pub mod Facts
+pub mod Regions
+pub mod Values
+pub mod Bits
+pub mod Flags
+pub mod Writes
+pub mod Heads
+pub mod After
+pub mod Room
+pub mod Setters
+pub mod Kept

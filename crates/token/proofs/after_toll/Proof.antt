@@ -1,0 +1,40 @@
+use Rattle.token.proofs.Steps.{toll-range}
+use Rattle.token.specs.Token.{arrives}
+use native.Mathlib.Omega.{arith}
+use borrow.Author.Needs.{needs}
+use Rattle.token.proofs.after_toll.Statement.{statement}
+use Rattle.token.proofs.after_toll.Tie as tie
+use Rattle.token.proofs.after_toll.Reads as reads
+use Rattle.token.proofs.after_toll.Lts as lts
+use Rattle.amount.proofs.less_toll.Reads as less-toll-reads
+use Rattle.amount.proofs.read_amount.Reads as read-amount-reads
+
+sub-read-amount : tie.Need-sub-read-amount
+sub-read-amount c = search needs
+
+mul-read-amount : tie.Need-mul-read-amount
+mul-read-amount c = search needs
+
+add-read-amount : tie.Need-add-read-amount
+add-read-amount c = search needs
+
+read-amount-requires : tie.Need-read-amount-requires
+read-amount-requires c κs = search needs
+
+less-toll-requires : tie.Need-less-toll-requires
+less-toll-requires c κs = let s = c .before .before in (search needs, omega (arith, toll-range (s .args .img .now) (s .args .t) (s .pre .0) (omega arith)))
+
+returns : tie.Need-returns
+unfolding arrives
+returns c = rw (c .before .read-amount .ensures) at (c .less-toll .ensures)
+
+pub after-toll-spec : {M : Type 1} → statement M
+after-toll-spec =
+    tie.close
+    (tie.spec
+    sub-read-amount
+    mul-read-amount
+    add-read-amount
+    read-amount-requires
+    less-toll-requires
+    returns)

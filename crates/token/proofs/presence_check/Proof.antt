@@ -1,0 +1,39 @@
+use Rattle.token.specs.Token.{absentNumber}
+use Rattle.fields.specs.Rules.{stop-at}
+use native.Mathlib.Omega.{arith}
+use mathlib.Core.Path.{refl}
+use borrow.Author.Needs.{needs}
+use Rattle.token.proofs.presence_check.Statement.{statement}
+use Rattle.token.proofs.presence_check.Tie as tie
+use Rattle.token.proofs.presence_check.Reads as reads
+use Rattle.token.proofs.presence_check.Lts as lts
+use Rattle.fields.proofs.get64.Reads as get64-reads
+
+returns : tie.Need-returns
+unfolding absentNumber
+returns c = stop-at _ 0 _ (omega arith) refl
+
+returns-2 : tie.Need-returns-2
+unfolding absentNumber
+returns-2 c = stop-at _ 1 _ (omega arith) refl
+
+mul-get64 : tie.Need-mul-get64
+mul-get64 c = search needs
+
+add-get64 : tie.Need-add-get64
+add-get64 c = search needs
+
+get64-requires : tie.Need-get64-requires
+get64-requires c κs = search needs
+
+returns-3 : tie.Need-returns-3
+unfolding absentNumber
+returns-3 c = stop-at _ 2 _ (omega arith) refl
+
+returns-4 : tie.Need-returns-4
+unfolding absentNumber
+returns-4 c = stop-at _ 3 _ (omega arith) refl
+
+pub presence-check-spec : {M : Type 1} → statement M
+presence-check-spec =
+    tie.close (tie.spec returns returns-2 mul-get64 add-get64 get64-requires returns-3 returns-4)
