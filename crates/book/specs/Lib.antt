@@ -1,3 +1,4 @@
 pub mod Book
 pub mod Moves
 pub mod Entries
+pub mod Owed

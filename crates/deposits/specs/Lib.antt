@@ -1,3 +1,4 @@
 pub mod Deposit
 pub mod Laws
 pub mod Moved
+pub mod Owed
