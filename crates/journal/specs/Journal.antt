@@ -1,5 +1,5 @@
 -- The undo journal: its bytes and what they say, which journals are good, and what an accepted operation enters.
-use mathlib.Core.Bool.{Bool, true, false}
+use mathlib.Core.Bool.{Bool, true}
 use mathlib.Core.List.{List, [], _∷_, _++_}
 use Prim.Native.Nat.{ℕ, zero, suc, _+_, _*_, _-_, _/_, _%_}
 use lib.Dec.{eqb, leb, ltb}
@@ -55,31 +55,73 @@ unfoldable pub contentsOf : List ℕ → Contents
 contentsOf j = record { opened = eqb (getD j 0 0) 1; calls = le 2 j 2; entries = readEntries (le 2 j 4) (drop 24 j) }
 
 -- ---- good journals
--- 24 times (1 + k) bytes, k from 1 to 2,000
 unfoldable pub fits : ℕ → Bool
-fits len = eqb (len % 24) 0 and leb 48 len and leb len 48024
+fits len =
+    eqb (len % 24) 0  -- 24 times (1 + k) bytes,
+    and leb 48 len  -- k from 1
+    and leb len 48024  -- to 2,000
 
--- the entries that follow one of call `call` after which the call's next cell is at least `next`
-unfoldable pub ordered : (cells calls call next : ℕ) → List Entry → Bool
-ordered cells calls call next [] = true
-ordered cells calls call next (e ∷ es) =
-    leb 1 (e .call)
-    and leb (e .call) calls
-    and leb call (e .call)
-    and ltb (e .cell) cells
-    and (ltb call (e .call) or leb next (e .cell))
-    and eqb (length (e .old)) 16
+-- entries in order, behind one of call `last` whose next cell would be `next`: 0 and 0 at first
+unfoldable pub ordered : (cells calls last next : ℕ) → List Entry → Bool
+ordered cells calls last next [] = true
+ordered cells calls last next (e ∷ es) =
+    leb 1 (e .call)  -- call numbers from 1
+    and leb (e .call) calls  -- to calls,
+    and leb last (e .call)  -- never falling;
+    and ltb (e .cell) cells  -- cells below the number of cells,
+    and (ltb last (e .call) or leb next (e .cell))  -- ascending within a call;
+    and eqb (length (e .old)) 16  -- old 16 bytes
     and ordered cells calls (e .call) (suc (e .cell)) es
 
 unfoldable pub valid : (cells len : ℕ) → Contents → Bool
 valid cells len p =
-    (leb (p .calls) 1000 and leb (24 * suc (length (p .entries))) len)
+    (leb (p .calls) 1000  -- counts in range: at most 1,000 calls,
+    and leb (24 * suc (length (p .entries))) len)  -- and as many entries as there are places for
     and ordered cells (p .calls) 0 0 (p .entries)
-    and (p .opened or (eqb (p .calls) 0 and eqb (length (p .entries)) 0))
+    and (p .opened or (eqb (p .calls) 0 and eqb (length (p .entries)) 0))  -- a closed journal is all zero
 
 unfoldable pub goodJournal : (cells : ℕ) → List ℕ → Bool
 goodJournal cells j =
     fits (length j)
     and valid cells (length j) (contentsOf j)
-    and sameBytes (bytesOf (length j) (contentsOf j)) j
+    and sameBytes (bytesOf (length j) (contentsOf j)) j  -- open 0 or 1, the unused bytes of head and entries zero, rest zero
 
+-- ---- cells and their old bytes
+-- the cells in which two images differ, of n cells from cell i on, as entries of a call with the bytes of the first image
+unfoldable pub changed : (call n i : ℕ) → (old new : List ℕ) → List Entry
+changed call zero i old new = []
+changed call (suc n) i old new =
+    pick (sameBytes (take 16 old) (take 16 new)) (changed call n (suc i) (drop 16 old) (drop 16 new))
+    (record { cell = i; call = call; old = take 16 old } ∷ changed call n (suc i) (drop 16 old) (drop 16 new))
+
+-- the image with an entry's old bytes in its cell
+unfoldable pub putBack : List ℕ → Entry → List ℕ
+putBack image e = take (16 * e .cell) image ++ (e .old ++ drop (16 * suc (e .cell)) image)
+
+-- all entries put back, the last one first
+unfoldable pub restore : List Entry → List ℕ → List ℕ
+restore [] image = image
+restore (e ∷ es) image = putBack (restore es image) e
+
+-- the entries of one call, and those of all others
+unfoldable pub ofCall : ℕ → List Entry → List Entry
+ofCall n [] = []
+ofCall n (e ∷ es) = pick (eqb (e .call) n) (e ∷ ofCall n es) (ofCall n es)
+
+unfoldable pub exceptCall : ℕ → List Entry → List Entry
+exceptCall n [] = []
+exceptCall n (e ∷ es) = pick (eqb (e .call) n) (exceptCall n es) (e ∷ exceptCall n es)
+
+-- ---- an accepted operation in an open journal, which changed the image from old to new: one call more, and its changed cells
+unfoldable pub entered : (cells : ℕ) → (old new : List ℕ) → Contents → Contents
+entered cells old new p =
+    record { opened = true; calls = suc (p .calls); entries = p .entries ++ changed (suc (p .calls)) cells 0 old new }
+
+-- neither 1,000 calls nor the k entries that the journal has places for would be passed: else 34
+unfoldable pub room : (cells : ℕ) → (old new journal : List ℕ) → Bool
+room cells old new j =
+    leb (suc (contentsOf j .calls)) 1000
+    and leb (24 * suc (length (entered cells old new (contentsOf j) .entries))) (length j)
+
+unfoldable pub journalAfter : (cells : ℕ) → (old new journal : List ℕ) → List ℕ
+journalAfter cells old new j = bytesOf (length j) (entered cells old new (contentsOf j))

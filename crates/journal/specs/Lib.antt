@@ -1,3 +1,4 @@
+-- The definitions of the journal.
 pub mod Calls
 pub mod Journal
 pub mod Step

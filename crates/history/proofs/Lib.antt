@@ -1,0 +1,6 @@
+-- The theorem on lists of calls, and its instance.
+pub mod Kept
+pub mod Steps
+pub mod Theorem
+pub mod RegisterLaws
+pub mod RegisterCases

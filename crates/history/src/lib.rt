@@ -1,0 +1,1 @@
+// The theorem on lists of calls stands in specs/ and proofs/; this crate has no code.
