@@ -1,18 +1,22 @@
 -- The book at the opening, and the book after an operation, from what the operation does to the image.
 use mathlib.Core.Path.{_≡_, refl, sym, ap, _∙_}
+use mathlib.Core.Bool.{Bool, true, not}
 use mathlib.Core.List.{List}
 use Prim.Native.Nat.{ℕ, zero, suc, _+_, _-_, _≤_, _<_}
 use native.Mathlib.Decide.{ℕ-discrete}
 use lib.Seq.{getD-set-same, getD-set-other}
 use native.Mathlib.Omega.{arith}
+use borrow.Author.Tests.{not-true}
+use lib.Dec.{eqb}
 use lib.ListN.{length, getD, set, length-set}
 use Rattle.image.specs.Layout.{slot, tollAt, holdingAt, defaultToken, destination, hasMigration}
 use Rattle.amount.specs.Frame.{same-amountAt}
 use Rattle.amount.specs.Biased.{bias}
-use Rattle.fields.specs.Frame.{Agree, part}
-use Rattle.fields.specs.Rules.{is}
+use Rattle.fields.specs.Frame.{Only, Agree, over, part}
+use Rattle.fields.specs.Logic.{_and_, and-l, and-r}
+use Rattle.record.specs.Record.{operationOf}
 use Rattle.book.specs.Moves.{Moves}
-use Rattle.book.specs.Book.{Book, table, vaultHolding, tollValue, openBook, change, net, adds, takes, BookIs}
+use Rattle.book.specs.Book.{Book, table, vaultHolding, tollValue, openBook, change, net, adds, takes, enterBook, BookIs}
 
 table-length : (f : ℕ → ℕ) (n i : ℕ) → length (table f n i) ≡ n
 unfolding table
@@ -37,28 +41,28 @@ opens x =
     }
 
 -- ---- an operation that moves money of one token
-module _ (b : Book) {t new : ℕ} {l m : List ℕ} (is : BookIs b l) (v : Moves t new l m) (low : 48 ≤ t) (high : t < 64) where
+module _ (b : Book) {t new : ℕ} {l m : List ℕ} (fits : BookIs b l) (v : Moves t new l m) (low : 48 ≤ t) (high : t < 64) where
   pub changed : (f : ℕ → ℕ) → new - bias ≡ f (vaultHolding l (slot t)) → BookIs (change f t b) m
   unfolding change
   changed f e =
       record {
-        sixteen = simp length-set (is .sixteen);
+        sixteen = simp length-set (fits .sixteen);
         numbered = λ u h. at u h (ℕ-discrete u (slot t));
-        tolled = λ u h. is .tolled u h ∙ ap (λ (k : ℕ). k - bias) (sym (v .tolls u h));
-        default = is .default ∙ sym (v .token);
-        migrating = λ i. is .migrating (rw (v .flagged) at i) ∙ sym (v .to);
+        tolled = λ u h. fits .tolled u h ∙ ap (λ (k : ℕ). k - bias) (sym (v .tolls u h));
+        default = fits .default ∙ sym (v .token);
+        migrating = λ i. fits .migrating (rw (v .flagged) at i) ∙ sym (v .to);
       }
     where
       at : (u : ℕ) → u < 16 → Dec (u ≡ slot t) → getD (set (b .numbers) (slot t) (f (getD (b .numbers) (slot t) 0))) u 0 ≡ vaultHolding m u
       at u h (yes p) =
-          let n = is .sixteen in
-          rw p (getD-set-same (b .numbers) (slot t) _ 0 (omega arith) ∙ (ap f (is .numbered (slot t) (omega arith)) ∙ (sym e ∙ ap (λ (k : ℕ). k - bias) (sym (v .this)))))
-      at u h (no p) = getD-set-other (b .numbers) (slot t) u _ 0 p ∙ (is .numbered u h ∙ ap (λ (k : ℕ). k - bias) (sym (v .other u h p)))
+          let n = fits .sixteen in
+          rw p (getD-set-same (b .numbers) (slot t) _ 0 (omega arith) ∙ (ap f (fits .numbered (slot t) (omega arith)) ∙ (sym e ∙ ap (λ (k : ℕ). k - bias) (sym (v .this)))))
+      at u h (no p) = getD-set-other (b .numbers) (slot t) u _ 0 p ∙ (fits .numbered u h ∙ ap (λ (k : ℕ). k - bias) (sym (v .other u h p)))
 
   pub added : (n : ℕ) → new - bias ≡ vaultHolding l (slot t) + (n - tollValue l (slot t)) → BookIs (adds t n b) m
   unfolding adds net
   added n e =
-      let k : getD (b .tolls) (slot t) 0 ≡ tollValue l (slot t) = is .tolled (slot t) (omega arith) in
+      let k : getD (b .tolls) (slot t) 0 ≡ tollValue l (slot t) = fits .tolled (slot t) (omega arith) in
       changed (λ h. h + (n - getD (b .tolls) (slot t) 0)) (rw k e)
 
   pub taken : (n : ℕ) → new - bias ≡ vaultHolding l (slot t) - n → BookIs (takes t n b) m
@@ -66,18 +70,49 @@ module _ (b : Book) {t new : ℕ} {l m : List ℕ} (is : BookIs b l) (v : Moves 
   taken n e = changed (λ h. h - n) e
 
 -- ---- an operation that moves none
-module _ (b : Book) {l m : List ℕ} (is : BookIs b l) (a : Agree 3680 16768 l m) where
+module _ (b : Book) {l m : List ℕ} (fits : BookIs b l) (a : Agree 3680 16768 l m) where
   pub unmoved : (token to : ℕ) → token ≡ defaultToken m → (hasMigration m ≡ 1 → to ≡ destination m)
       → BookIs (record { numbers = b .numbers; tolls = b .tolls; token = token; destination = to }) m
   unmoved token to e f =
       record {
-        sixteen = is .sixteen;
-        numbered = λ u h. is .numbered u h ∙ ap (λ (k : ℕ). k - bias) (sym (same-amountAt (holdingAt u 1) (part (holdingAt u 1) 16 a (omega arith) (omega arith))));
-        tolled = λ u h. is .tolled u h ∙ ap (λ (k : ℕ). k - bias) (sym (same-amountAt (tollAt u) (part (tollAt u) 16 a (omega arith) (omega arith))));
+        sixteen = fits .sixteen;
+        numbered = λ u h. fits .numbered u h ∙ ap (λ (k : ℕ). k - bias) (sym (same-amountAt (holdingAt u 1) (part (holdingAt u 1) 16 a (omega arith) (omega arith))));
+        tolled = λ u h. fits .tolled u h ∙ ap (λ (k : ℕ). k - bias) (sym (same-amountAt (tollAt u) (part (tollAt u) 16 a (omega arith) (omega arith))));
         default = e;
         migrating = f;
       }
 
   -- default token, destination and its flag as they were
   pub settled : defaultToken m ≡ defaultToken l → (hasMigration m ≡ 1 → (hasMigration l ≡ 1) × (destination m ≡ destination l)) → BookIs b m
-  settled e f = unmoved (b .token) (b .destination) (is .default ∙ sym e) (λ i. let (h, d) = f i in is .migrating h ∙ sym d)
+  settled e f = unmoved (b .token) (b .destination) (fits .default ∙ sym e) (λ i. let (h, d) = f i in fits .migrating h ∙ sym d)
+
+-- ---- an operation that writes between 0 and 80 alone, and neither the default token nor the migration
+pub head-settled : (b : Book) {l m : List ℕ} → BookIs b l → Only 0 80 l m → defaultToken m ≡ defaultToken l → destination m ≡ destination l → hasMigration m ≡ hasMigration l → BookIs b m
+head-settled b fits o e d h = settled b fits (over 3680 16768 0 80 o (omega arith)) e (λ i. (sym h ∙ i, d))
+
+-- ---- the operations that the book does not know
+unfoldable pub quietOperation : ℕ → Bool
+quietOperation o =
+    not (eqb o 1) and not (eqb o 2) and not (eqb o 3) and not (eqb o 4) and not (eqb o 5) and not (eqb o 6)
+    and not (eqb o 7) and not (eqb o 8) and not (eqb o 9) and not (eqb o 21) and not (eqb o 22) and not (eqb o 29)
+
+pub quiet : (b : Book) (r e : List ℕ) (o : ℕ) → operationOf r ≡ o → quietOperation o ≡ true → enterBook b r e ≡ b
+unfolding enterBook quietOperation
+quiet b r e o p q =
+    let q2 = and-r _ _ q in let q3 = and-r _ _ q2 in let q4 = and-r _ _ q3 in let q5 = and-r _ _ q4 in let q6 = and-r _ _ q5 in
+    let q7 = and-r _ _ q6 in let q8 = and-r _ _ q7 in let q9 = and-r _ _ q8 in let q10 = and-r _ _ q9 in let q11 = and-r _ _ q10 in let q12 = and-r _ _ q11 in
+    rw (
+      p,
+      not-true (eqb o 1) (and-l _ _ q),
+      not-true (eqb o 2) (and-l _ _ q2),
+      not-true (eqb o 3) (and-l _ _ q3),
+      not-true (eqb o 4) (and-l _ _ q4),
+      not-true (eqb o 5) (and-l _ _ q5),
+      not-true (eqb o 6) (and-l _ _ q6),
+      not-true (eqb o 7) (and-l _ _ q7),
+      not-true (eqb o 8) (and-l _ _ q8),
+      not-true (eqb o 9) (and-l _ _ q9),
+      not-true (eqb o 21) (and-l _ _ q10),
+      not-true (eqb o 22) (and-l _ _ q11),
+      not-true (eqb o 29) q12,
+    )

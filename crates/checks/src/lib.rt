@@ -83,7 +83,7 @@ pub fn owner_gate(img: &[u8], caller: u8, signers: u64) -> u8
 }
 
 // 1 where the address is the owner's or the operator's, and 0.
-fn is_insider(img: &[u8], a: u8) -> u8
+pub fn is_insider(img: &[u8], a: u8) -> u8
     requires { ⌜ length (now img) ≡ imageLength ⌝ }
     ensures { λ r. ⌜ r ≡ insider (now (img .entry)) a ⌝ }
 {

@@ -5,6 +5,7 @@ use Prim.Native.Nat.{ℕ, zero, suc, _+_, _-_, _*_}
 use lib.Dec.{eqb, ltb, leb}
 use lib.ListN.{length, getD, drop}
 use Rattle.fields.specs.Logic.{_and_, _or_, all}
+use Rattle.fields.specs.Bytes.{bytes}
 use Rattle.fields.specs.Rules.{pick}
 use Rattle.fields.specs.Zeros.{each, zeros}
 use Rattle.amount.specs.Biased.{amountAt, bias}
@@ -110,10 +111,6 @@ goodPresent l t = leb bias (toll l t) and notNegatives l (holdingsAt t) 64 and n
 unfoldable pub goodToken : List ℕ → ℕ → Bool
 goodToken l t = ltb (kind l t) 3 and goodSnapshot l t and pick (eqb (kind l t) 0) (goodAbsent l t) (goodPresent l t)
 
--- ---- the image. Code proves `bytes` of any slice; here it says of a list what a slice is, so that amounts are below 2 ^ 127
-unfoldable pub bytes : List ℕ → Bool
-bytes [] = true
-bytes (x ∷ xs) = ltb x 256 and bytes xs
-
+-- ---- the image
 unfoldable pub goodImage : List ℕ → Bool
 goodImage l = eqb (length l) 36832 and bytes l and goodHead l and all (goodCap l) 64 and goodKeys l and all (goodToken l) 16

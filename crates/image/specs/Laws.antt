@@ -18,7 +18,7 @@ use Rattle.amount.specs.Laws.{by-lt, bias-parts, full-parts, lex-lt, sign-below
 use Rattle.image.specs.Layout.{trackedKey, defaultToken}
 use Rattle.fields.specs.Logic.{_and_, _or_, and-l, and-r, and-i, and-false, false-and}
 use Rattle.fields.specs.Zeros.{each}
-use Rattle.image.specs.Good.{notNegativeHere, notNegatives, tracked, freshKey, goodAddresses, bytes}
+use Rattle.image.specs.Good.{notNegativeHere, notNegatives, tracked, freshKey, goodAddresses}
 
 -- ---- amounts that are not negative
 le-drop : (w : ℕ) (l : List ℕ) (at b : ℕ) → le w (drop at l) b ≡ le w l (at + b)
@@ -162,15 +162,3 @@ fresh-new s t i x e l h z = rw (← e, lt-ltb x 1088 l, mark-zero (tracked s i x
 pub token-address : (l : List ℕ) → goodAddresses l ≡ true → defaultToken l < 64
 unfolding goodAddresses
 token-address l h = ltb-true (defaultToken l) 64 (and-l _ _ (and-r _ _ h))
-
--- ---- bytes
-pub bytes-from : (l : List ℕ) → ((i : ℕ) → getD l i 0 < 256) → bytes l ≡ true
-unfolding bytes
-bytes-from [] h = refl
-bytes-from (x ∷ xs) h = and-i _ _ (lt-ltb x 256 (h 0)) (bytes-from xs (λ i. h (suc i)))
-
-pub bytes-at : (l : List ℕ) → bytes l ≡ true → (i : ℕ) → getD l i 0 < 256
-unfolding bytes
-bytes-at [] h i = omega arith
-bytes-at (x ∷ xs) h zero = ltb-true x 256 (and-l _ _ h)
-bytes-at (x ∷ xs) h (suc i) = bytes-at xs (and-r _ _ h) i

@@ -1,7 +1,11 @@
 // The answer of an operation: its number, 0 when done, its value, and its count of events.
 use amount::Amount;
+use events::Event;
 ghost use mathlib.Core.Path.{_≡_};
+ghost use mathlib.Core.List.{[]};
 ghost use Rattle.amount.specs.Biased.{bias, biased};
+ghost use Rattle.events.specs.Event.{fieldsOf, eventBuffer};
+ghost use Rattle.outcome.specs.Outcome.{Announced};
 
 pub struct Answer {
     pub number: u8,
@@ -28,4 +32,24 @@ pub fn done(events: u8) -> Answer
         value: amount::zero(),
         events,
     }
+}
+
+// What a view that is done gives.
+pub fn viewed(value: Amount) -> Answer
+    ensures { λ r. ⌜ (r .number ≡ 0) × (biased (r .value) ≡ biased value) × (r .events ≡ 0) ⌝ }
+{
+    Answer {
+        number: 0,
+        value,
+        events: 0,
+    }
+}
+
+// Done with no value and one event.
+pub fn announce(events: &mut [u8], event: Event) -> Answer
+    requires { ⌜ now events ≡ eventBuffer [] ⌝ }
+    ensures { λ r. ⌜ Announced (fieldsOf event) r (now (events .exit)) ⌝ }
+{
+    events::put_event(events, 0, event);
+    done(1)
 }

@@ -4,6 +4,7 @@ use mathlib.Core.List.{List, [], _∷_}
 use Prim.Native.Nat.{ℕ}
 use lib.Dec.{eqb, ltb}
 use lib.ListN.{length}
+use Rattle.fields.specs.Bytes.{bytes}
 use Rattle.fields.specs.Logic.{_and_, _or_, all}
 use Rattle.fields.specs.Rules.{Rule, when, verdict, lt, ne, is}
 use Rattle.record.specs.Record.{operationOf, callerOf, tokenOf, otherOf, flagOf, itemCountOf, itemAddress}
@@ -77,6 +78,7 @@ formRules r =
     ∷ when (lt 30 (operationOf r)) 32
     ∷ when (is (headExceeds r)) 32
     ∷ when (is (itemsExceed r)) 32
+    ∷ when (is (not (bytes r))) 32  -- never of a slice
     ∷ []
 
 unfoldable pub formNumber : List ℕ → ℕ

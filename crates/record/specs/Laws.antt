@@ -6,10 +6,10 @@ use Prim.Native.Nat.{ℕ, _≤_, _<_}
 use native.Mathlib.Omega.{arith}
 use borrow.Author.Tests.{ltb-true, ltb-false, not-false}
 use lib.Dec.{ltb}
-use lib.ListN.{length, replicate}
+use lib.ListN.{length, getD, replicate}
 use Rattle.fields.specs.Logic.{_and_, _or_, true-and, all-at}
 use Rattle.fields.specs.Rules.{AllFail, verdict, passed}
-use Rattle.fields.specs.Bytes.{le}
+use Rattle.fields.specs.Bytes.{le, bytes, bytes-at}
 use Rattle.record.specs.Record.{operationOf, callerOf, tokenOf, otherOf, flagOf, itemCountOf, itemAddress}
 use Rattle.record.specs.Form.{readsCaller, readsToken, readsOther, readsFlag, readsItems, member, itemWithin, itemsWithin, headExceeds, itemsExceed, formRules, formNumber}
 
@@ -23,6 +23,9 @@ form-length r z = form-passed r z .0
 
 pub form-operation : (r : List ℕ) → formNumber r ≡ 0 → (1 ≤ operationOf r) × (operationOf r ≤ 30)
 form-operation r z = let f = form-passed r z in (f .1 .0, f .1 .1 .0)
+
+pub form-bytes : (r : List ℕ) → formNumber r ≡ 0 → (i : ℕ) → getD r i 0 < 256
+form-bytes r z = bytes-at r (not-false (bytes r) (form-passed r z .1 .1 .1 .1 .1 .0))
 
 -- of a field that is read, the test itself
 read-false : (reads b : Bool) → reads and b ≡ false → reads ≡ true → b ≡ false
@@ -91,9 +94,9 @@ withdraw-caller r z e = caller-below r 5 z e refl
 
 -- a record of zeros but for operation 24, which reads no field, and one for operation 5 to an address of 64
 balance-form : formNumber (24 ∷ replicate 447 0) ≡ 0
-unfolding formNumber verdict headExceeds itemsExceed readsCaller readsToken readsOther readsFlag readsItems member le _and_ _or_
+unfolding formNumber verdict headExceeds itemsExceed readsCaller readsToken readsOther readsFlag readsItems member le _and_ _or_ bytes
 balance-form = refl
 
 withdraw-form : formNumber (5 ∷ 0 ∷ 0 ∷ 64 ∷ replicate 444 0) ≡ 32
-unfolding formNumber verdict headExceeds itemsExceed readsCaller readsToken readsOther readsFlag readsItems member le _and_ _or_
+unfolding formNumber verdict headExceeds itemsExceed readsCaller readsToken readsOther readsFlag readsItems member le _and_ _or_ bytes
 withdraw-form = refl

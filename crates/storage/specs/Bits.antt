@@ -1,13 +1,13 @@
 -- Bits of a set, at any place.
 use mathlib.Core.Path.{_≡_, refl, sym, ap, _∙_}
 use Prim.Native.Nat.{ℕ, suc, _+_, _-_, _*_, _/_, _%_, _^_, _≤_, _<_}
-use native.Mathlib.Nat.{add-div-right, add-mul-div-right, pow-suc, mul-zero, mul-one, one-mul, add-mul, mod-lt, add-zero, add-comm}
+use native.Mathlib.Nat.{add-div-right, add-mul-div-right, pow-suc, mul-zero, mul-one, one-mul, add-mul, mod-lt, add-zero, sub-zero, add-comm, div-eq-of-lt}
 use native.Mathlib.Omega.{arith}
 use mathlib.Core.List.{List}
 use lib.ListN.{length}
 use lib.Pow.{pow-pos, pow-add, shr-shr, shr-lt, shl-exact, split, field, mod-mod-pow}
 use lib.Arith.{digits-lt}
-use Rattle.image.specs.Layout.{bit, withBit}
+use Rattle.image.specs.Layout.{bit, withBit, withoutBit}
 use Rattle.amount.specs.Laws.{by-lt}
 use Rattle.fields.specs.Bytes.{le, put, le-put-same, put-low}
 
@@ -94,3 +94,16 @@ set-fits x k b h z =
   where
     even : (q m : ℕ) → q % 2 ≡ 0 → q < m * 2 → q + 1 < m * 2
     even q m z h = omega arith
+
+-- ---- a bit taken off
+pub without-off : (x a : ℕ) → bit x a ≡ 0 → withoutBit x a ≡ x
+without-off x a e = rw (e, mul-zero, sub-zero)
+
+pub without-on : (x a : ℕ) → bit x a ≡ 1 → withoutBit x a ≡ x - 2 ^ a
+without-on x a e = rw (e, mul-one)
+
+pub bit-there : (x a : ℕ) → bit x a ≡ 1 → 2 ^ a ≤ x
+bit-there x a e =
+    by-lt x (2 ^ a) (2 ^ a ≤ x)
+    (λ h. let z : x / 2 ^ a ≡ 0 = div-eq-of-lt h in absurd (omega arith))
+    (λ h. h)

@@ -10,8 +10,9 @@ use lib.Dec.{eqb, ltb, leb}
 use lib.ListN.{length, getD}
 use lib.ListN.{set}
 use Rattle.image.specs.Layout.{trackedKeyAt, holdingsAt, creditsAt, bit, flags, owner, defaultToken, operator, pendingOwner, proposer, destination, proposedAt, timeToLive, migrationProposedAt, executableAt, cappedSet, trackedCount, vaultLimit, operatorLimit, cap, toll, kind, trackedKey, snapshotPresent, snapshotLedger, snapshotHolding, holding, credit, initialised, isCapped}
-use Rattle.image.specs.Good.{notNegatives, aboveWhere, goodAddresses, goodDefaults, goodPending, goodMigration, goodOptions, goodHead, goodCap, tracked, freshKey, goodKeys, goodSnapshot, goodAbsent, goodPresent, goodToken, bytes, goodImage}
-use Rattle.image.specs.Laws.{notNegatives-at, notNegatives-from, bytes-from, bytes-at}
+use Rattle.image.specs.Good.{notNegatives, aboveWhere, goodAddresses, goodDefaults, goodPending, goodMigration, goodOptions, goodHead, goodCap, tracked, freshKey, goodKeys, goodSnapshot, goodAbsent, goodPresent, goodToken, goodImage}
+use Rattle.image.specs.Laws.{notNegatives-at, notNegatives-from}
+use Rattle.fields.specs.Bytes.{bytes-from, bytes-at}
 use Rattle.amount.specs.Frame.{zero-amountAt}
 use Rattle.amount.specs.Biased.{bias}
 use Rattle.fields.specs.Logic.{_and_, _or_, and-l, and-r, and-i, or-l, or-r, or-e, all-at, all-from}

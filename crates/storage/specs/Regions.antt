@@ -5,7 +5,6 @@ use Prim.Native.Nat.{ℕ, _+_, _-_, _*_, _/_, _%_, _^_, _≤_, _<_}
 use native.Mathlib.Omega.{arith}
 use lib.ListN.{length, getD}
 use Rattle.image.specs.Layout.{capAt, snapshotAt, trackedKeyAt, tokenAt, tollAt, holdingsAt, creditsAt, flags, defaultToken, trackedCount, cap, kind, trackedKey, holding, credit, initialised, isCapped}
-use Rattle.image.specs.Good.{bytes}
 use Rattle.amount.specs.Frame.{same-amountAt}
 use Rattle.amount.specs.Biased.{bias, amountAt}
 use Rattle.fields.specs.Frame.{Only, Agree, under, over, part, same-le}

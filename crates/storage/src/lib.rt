@@ -3,10 +3,11 @@ use amount::Amount;
 ghost use mathlib.Core.Path.{_≡_};
 ghost use Prim.Native.Nat.{ℕ, _+_, _-_, _*_, _<_, _≤_, _^_};
 ghost use lib.ListN.{length};
+ghost use Rattle.fields.specs.Bytes.{put};
 ghost use Rattle.amount.specs.Biased.{biased};
-ghost use Rattle.image.specs.Layout.{imageLength, trackedCount, bit, withBit};
+ghost use Rattle.image.specs.Layout.{imageLength, flags, trackedCount, withBit, withoutBit};
 ghost use Rattle.image.specs.Good.{tracked};
-ghost use Rattle.storage.specs.Facts.{Keys};
+ghost use Rattle.storage.specs.Facts.{Good, Keys};
 ghost use Rattle.storage.specs.Setters.{trackKey, setCredit, setCap, recordBalance, snapshotNumber};
 
 fn is_tracked(img: &[u8], k: u16) -> bool
@@ -54,6 +55,33 @@ pub fn with_bit(set: u64, k: u64) -> u64
         return set;
     }
     set + (1 << k)
+}
+
+// The set with bit k, below 64, cleared.
+pub fn without_bit(set: u64, k: u64) -> u64
+    requires { ⌜ k < 64 ⌝ }
+    ensures { λ r. ⌜ r ≡ withoutBit set k ⌝ }
+{
+    if (set >> k) % 2 == 0 {
+        return set;
+    }
+    set - (1 << k)
+}
+
+pub fn set_flag(img: &mut [u8], k: u64)
+    requires { ⌜ Good (now img) × (k < 6) ⌝ }
+    ensures { λ _. ⌜ now (img .exit) ≡ put 2 (now (img .entry)) 0 (withBit (flags (now (img .entry))) k) ⌝ }
+{
+    let f = fields::get16(img, 0);
+    fields::put16(img, 0, with_bit(f as u64, k) as u16);
+}
+
+pub fn clear_flag(img: &mut [u8], k: u64)
+    requires { ⌜ Good (now img) × (k < 6) ⌝ }
+    ensures { λ _. ⌜ now (img .exit) ≡ put 2 (now (img .entry)) 0 (withoutBit (flags (now (img .entry))) k) ⌝ }
+{
+    let f = fields::get16(img, 0);
+    fields::put16(img, 0, without_bit(f as u64, k) as u16);
 }
 
 pub fn set_token_max_limit(img: &mut [u8], address: usize, limit: Amount)

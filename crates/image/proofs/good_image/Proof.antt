@@ -4,7 +4,7 @@ use borrow.Author.Tests.{eq-eqb, ne-eqb}
 use lib.ListN.{length, getD}
 use Rattle.fields.specs.Logic.{false-and, true-and}
 use Rattle.image.specs.Good.{goodImage}
-use Rattle.image.specs.Laws.{bytes-from}
+use Rattle.fields.specs.Bytes.{bytes-from}
 use borrow.Author.Needs.{needs}
 use Rattle.image.proofs.good_image.Statement.{statement}
 use Rattle.image.proofs.good_image.Tie as tie

@@ -2,7 +2,11 @@
 use Rattle.record.specs.Form.{formNumber}
 use Rattle.fields.specs.Rules.{stop-at}
 use native.Mathlib.Omega.{arith}
-use mathlib.Core.Path.{refl}
+use mathlib.Core.Path.{refl, ap}
+use mathlib.Core.Bool.{not}
+use Prim.Native.Nat.{ℕ, _<_}
+use lib.ListN.{getD}
+use Rattle.fields.specs.Bytes.{bytes-from}
 use borrow.Author.Needs.{needs}
 use Rattle.record.proofs.form_check.Statement.{statement}
 use Rattle.record.proofs.form_check.Tie as tie
@@ -38,7 +42,10 @@ returns-5 c = stop-at _ 4 _ (omega arith, (omega arith, (omega arith, (cc, cc)))
 
 returns-6 : tie.Need-returns-6
 unfolding formNumber
-returns-6 c = stop-at _ 5 _ (omega arith, (omega arith, (omega arith, (cc, (cc, tt))))) refl
+returns-6 c =
+    let l = c .before .before .before .before .before .before .before .before .before .args .rec .now in
+    let h : (j : ℕ) → getD l j 0 < 256 = λ j. omega (arith, c .before .before .before .before .before .before .before .before .shared-slice-known .given j) in
+    stop-at _ 6 _ (omega arith, (omega arith, (omega arith, (cc, (cc, (ap not (bytes-from l h), tt)))))) refl
 
 pub form-check-spec : {M : Type 1} → statement M
 form-check-spec =

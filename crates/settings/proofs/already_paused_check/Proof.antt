@@ -1,0 +1,24 @@
+use Rattle.settings.specs.Settings.{alreadyPausedNumber}
+use Rattle.fields.specs.Rules.{stop-at}
+use native.Mathlib.Omega.{arith}
+use mathlib.Core.Path.{refl}
+use borrow.Author.Needs.{needs}
+use Rattle.settings.proofs.already_paused_check.Statement.{statement}
+use Rattle.settings.proofs.already_paused_check.Tie as tie
+use Rattle.settings.proofs.already_paused_check.Reads as reads
+use Rattle.settings.proofs.already_paused_check.Lts as lts
+use Rattle.checks.proofs.flag_of.Reads as flag-of-reads
+
+flag-of-requires : tie.Need-flag-of-requires
+flag-of-requires c κs = search needs
+
+returns : tie.Need-returns
+unfolding alreadyPausedNumber
+returns c = stop-at _ 0 _ (omega arith) refl
+
+returns-2 : tie.Need-returns-2
+unfolding alreadyPausedNumber
+returns-2 c = stop-at _ 1 _ (omega arith) refl
+
+pub already-paused-check-spec : {M : Type 1} → statement M
+already-paused-check-spec = tie.close (tie.spec flag-of-requires returns returns-2)

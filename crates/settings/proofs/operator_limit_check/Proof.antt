@@ -1,0 +1,43 @@
+use Rattle.settings.specs.Settings.{operatorLimitNumber}
+use Rattle.fields.specs.Rules.{link-at, ends-at}
+use native.Mathlib.Omega.{arith}
+use borrow.Author.Needs.{needs}
+use Rattle.settings.proofs.operator_limit_check.Statement.{statement}
+use Rattle.settings.proofs.operator_limit_check.Tie as tie
+use Rattle.settings.proofs.operator_limit_check.Reads as reads
+use Rattle.settings.proofs.operator_limit_check.Lts as lts
+use Rattle.checks.proofs.amount_check.Reads as amount-check-reads
+use Rattle.checks.proofs.owner_gate.Reads as owner-gate-reads
+use Rattle.checks.proofs.paused_check.Reads as paused-check-reads
+
+paused-check-requires : tie.Need-paused-check-requires
+paused-check-requires c κs = search needs
+
+returns : tie.Need-returns
+unfolding operatorLimitNumber
+returns c = link-at _ 0 _ (omega arith) (c .before .paused-check .ensures)
+
+owner-gate-requires : tie.Need-owner-gate-requires
+owner-gate-requires c κs = search needs
+
+returns-2 : tie.Need-returns-2
+unfolding operatorLimitNumber
+returns-2 c = link-at _ 1 _ (omega arith) (c .before .owner-gate .ensures)
+
+amount-check-requires : tie.Need-amount-check-requires
+amount-check-requires c κs = search needs
+
+returns-3 : tie.Need-returns-3
+unfolding operatorLimitNumber
+returns-3 c = ends-at _ 2 _ (omega arith) (c .amount-check .ensures)
+
+pub operator-limit-check-spec : {M : Type 1} → statement M
+operator-limit-check-spec =
+    tie.close
+    (tie.spec
+    paused-check-requires
+    returns
+    owner-gate-requires
+    returns-2
+    amount-check-requires
+    returns-3)

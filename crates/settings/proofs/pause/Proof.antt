@@ -1,0 +1,47 @@
+use Rattle.record.specs.Laws.{caller-below}
+use Rattle.record.specs.Form.{readsCaller, member}
+use native.Mathlib.Omega.{arith}
+use mathlib.Core.Path.{refl}
+use borrow.Author.Needs.{needs}
+use Rattle.settings.proofs.pause.Statement.{statement}
+use Rattle.settings.proofs.pause.Tie as tie
+use Rattle.settings.proofs.pause.Reads as reads
+use Rattle.settings.proofs.pause.Lts as lts
+use Rattle.record.proofs.caller.Reads as caller-reads
+use Rattle.record.proofs.signers.Reads as signers-reads
+use Rattle.record.proofs.timestamp.Reads as timestamp-reads
+use Rattle.settings.proofs.pause_of.Reads as pause-of-reads
+
+caller-requires : tie.Need-caller-requires
+caller-requires c κs = search needs
+
+signers-requires : tie.Need-signers-requires
+signers-requires c κs = search needs
+
+timestamp-requires : tie.Need-timestamp-requires
+timestamp-requires c κs = search needs
+
+pause-of-requires : tie.Need-pause-of-requires
+unfolding readsCaller member
+pause-of-requires c κs = let s = c .before .before .before .before .before .before .before .before in let f = s .pre .1 in (s .pre .0, omega (arith, caller-below (s .args .rec .now) 18 (f .formed) (f .operation) refl), s .pre .2)
+
+same-length : tie.Need-same-length
+same-length c = search needs
+
+same-length-2 : tie.Need-same-length-2
+same-length-2 c = search needs
+
+returns : tie.Need-returns
+returns c = rw (c .before .before .before .before .before .before .before .before .before .caller .ensures, c .before .before .before .before .before .before .before .before .signers .ensures, c .before .before .before .before .before .timestamp .ensures) at (c .before .before .before .before .pause-of .ensures)
+
+pub pause-spec : {M : Type 1} → statement M
+pause-spec =
+    tie.close
+    (tie.spec
+    caller-requires
+    signers-requires
+    timestamp-requires
+    pause-of-requires
+    same-length
+    same-length-2
+    returns)

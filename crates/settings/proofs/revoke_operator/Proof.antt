@@ -1,0 +1,42 @@
+use Rattle.record.specs.Laws.{caller-below}
+use Rattle.record.specs.Form.{readsCaller, member}
+use native.Mathlib.Omega.{arith}
+use mathlib.Core.Path.{refl}
+use borrow.Author.Needs.{needs}
+use Rattle.settings.proofs.revoke_operator.Statement.{statement}
+use Rattle.settings.proofs.revoke_operator.Tie as tie
+use Rattle.settings.proofs.revoke_operator.Reads as reads
+use Rattle.settings.proofs.revoke_operator.Lts as lts
+use Rattle.record.proofs.caller.Reads as caller-reads
+use Rattle.record.proofs.signers.Reads as signers-reads
+use Rattle.settings.proofs.revoke_operator_of.Reads as revoke-operator-of-reads
+
+caller-requires : tie.Need-caller-requires
+caller-requires c κs = search needs
+
+signers-requires : tie.Need-signers-requires
+signers-requires c κs = search needs
+
+revoke-operator-of-requires : tie.Need-revoke-operator-of-requires
+unfolding readsCaller member
+revoke-operator-of-requires c κs = let s = c .before .before .before .before .before .before .before in let f = s .pre .1 in (s .pre .0, omega (arith, caller-below (s .args .rec .now) 14 (f .formed) (f .operation) refl), s .pre .2)
+
+same-length : tie.Need-same-length
+same-length c = search needs
+
+same-length-2 : tie.Need-same-length-2
+same-length-2 c = search needs
+
+returns : tie.Need-returns
+returns c = rw (c .before .before .before .before .before .before .before .before .caller .ensures, c .before .before .before .before .before .signers .ensures) at (c .before .before .before .before .revoke-operator-of .ensures)
+
+pub revoke-operator-spec : {M : Type 1} → statement M
+revoke-operator-spec =
+    tie.close
+    (tie.spec
+    caller-requires
+    signers-requires
+    revoke-operator-of-requires
+    same-length
+    same-length-2
+    returns)

@@ -1,0 +1,70 @@
+use Rattle.settings.specs.Settings.{operatorLimitOutcome}
+use Rattle.outcome.specs.Outcome.{refused, announced}
+use mathlib.Core.Path.{sym, _∙_}
+use borrow.Author.Needs.{needs}
+use Rattle.settings.proofs.set_operator_withdraw_limit_of.Statement.{statement}
+use Rattle.settings.proofs.set_operator_withdraw_limit_of.Tie as tie
+use Rattle.settings.proofs.set_operator_withdraw_limit_of.Reads as reads
+use Rattle.settings.proofs.set_operator_withdraw_limit_of.Lts as lts
+use Rattle.amount.proofs.read_amount.Reads as read-amount-reads
+use Rattle.amount.proofs.write_amount.Reads as write-amount-reads
+use Rattle.events.proofs.operator_withdraw_limit_set.Reads as operator-withdraw-limit-set-reads
+use Rattle.outcome.proofs.announce.Reads as announce-reads
+use Rattle.outcome.proofs.refuse.Reads as refuse-reads
+use Rattle.settings.proofs.operator_limit_check.Reads as operator-limit-check-reads
+use Rattle.storage.proofs.set_flag.Reads as set-flag-reads
+
+operator-limit-check-requires : tie.Need-operator-limit-check-requires
+operator-limit-check-requires c κs = search needs
+
+refuse-requires : tie.Need-refuse-requires
+refuse-requires c κs = search needs
+
+same-length : tie.Need-same-length
+same-length c = search needs
+
+returns : tie.Need-returns
+unfolding operatorLimitOutcome
+returns c = refused _ (c .refuse .ensures) (c .before .before .operator-limit-check .ensures) (c .before .if1 .taken)
+
+read-amount-requires : tie.Need-read-amount-requires
+read-amount-requires c κs = search needs
+
+set-flag-requires : tie.Need-set-flag-requires
+set-flag-requires c κs = search needs
+
+write-amount-requires : tie.Need-write-amount-requires
+write-amount-requires c κs = search needs
+
+operator-withdraw-limit-set-requires : tie.Need-operator-withdraw-limit-set-requires
+operator-withdraw-limit-set-requires c κs = search needs
+
+announce-requires : tie.Need-announce-requires
+announce-requires c κs = search needs
+
+same-length-2 : tie.Need-same-length-2
+same-length-2 c = search needs
+
+same-length-3 : tie.Need-same-length-3
+same-length-3 c = search needs
+
+returns-2 : tie.Need-returns-2
+unfolding operatorLimitOutcome
+returns-2 c = announced (sym (c .before .before .before .before .before .before .before .before .before .before .before .before .before .before .before .before .operator-limit-check .ensures) ∙ c .before .before .before .before .before .before .before .before .before .before .before .before .before .before .before .if1 .left) (rw (c .before .before .before .before .before .before .before .before .before .before .before .before .before .read-amount .ensures) at (c .before .before .before .operator-withdraw-limit-set .ensures)) (c .before .before .announce .ensures) (rw (c .before .before .before .before .before .before .before .write-amount .ensures, c .before .before .before .before .before .before .before .before .before .before .before .set-flag .ensures))
+
+pub set-operator-withdraw-limit-of-spec : {M : Type 1} → statement M
+set-operator-withdraw-limit-of-spec =
+    tie.close
+    (tie.spec
+    operator-limit-check-requires
+    refuse-requires
+    same-length
+    returns
+    read-amount-requires
+    set-flag-requires
+    write-amount-requires
+    operator-withdraw-limit-set-requires
+    announce-requires
+    same-length-2
+    same-length-3
+    returns-2)

@@ -1,0 +1,52 @@
+use Rattle.record.specs.Laws.{caller-below, token-below}
+use Rattle.record.specs.Form.{readsCaller, readsToken, member}
+use native.Mathlib.Omega.{arith}
+use mathlib.Core.Path.{refl}
+use borrow.Author.Needs.{needs}
+use Rattle.setup.proofs.initialize.Statement.{statement}
+use Rattle.setup.proofs.initialize.Tie as tie
+use Rattle.setup.proofs.initialize.Reads as reads
+use Rattle.setup.proofs.initialize.Lts as lts
+use Rattle.record.proofs.amount.Reads as amount-reads
+use Rattle.record.proofs.caller.Reads as caller-reads
+use Rattle.record.proofs.signers.Reads as signers-reads
+use Rattle.record.proofs.token.Reads as token-reads
+use Rattle.setup.proofs.initialize_of.Reads as initialize-of-reads
+
+caller-requires : tie.Need-caller-requires
+caller-requires c κs = search needs
+
+signers-requires : tie.Need-signers-requires
+signers-requires c κs = search needs
+
+token-requires : tie.Need-token-requires
+token-requires c κs = search needs
+
+amount-requires : tie.Need-amount-requires
+amount-requires c κs = search needs
+
+initialize-of-requires : tie.Need-initialize-of-requires
+unfolding readsCaller readsToken member
+initialize-of-requires c κs = let s = c .before .before .before .before .before .before .before .before .before in let f = s .pre .1 in (s .pre .0, omega (arith, caller-below (s .args .rec .now) 1 (f .formed) (f .operation) refl), omega (arith, token-below (s .args .rec .now) 1 (f .formed) (f .operation) refl), s .pre .2)
+
+same-length : tie.Need-same-length
+same-length c = search needs
+
+same-length-2 : tie.Need-same-length-2
+same-length-2 c = search needs
+
+returns : tie.Need-returns
+returns c = rw (c .before .before .before .before .before .before .before .before .before .before .caller .ensures, c .before .before .before .before .before .before .before .before .before .signers .ensures, c .before .before .before .before .before .before .before .before .token .ensures, c .before .before .before .before .before .amount .ensures) at (c .before .before .before .before .initialize-of .ensures)
+
+pub initialize-spec : {M : Type 1} → statement M
+initialize-spec =
+    tie.close
+    (tie.spec
+    caller-requires
+    signers-requires
+    token-requires
+    amount-requires
+    initialize-of-requires
+    same-length
+    same-length-2
+    returns)

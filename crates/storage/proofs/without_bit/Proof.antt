@@ -1,0 +1,28 @@
+use Rattle.storage.specs.Bits.{without-on, without-off, shifted-one, bit-there}
+use Rattle.image.specs.Layout.{bit}
+use native.Mathlib.Omega.{arith}
+use Prim.Native.Nat.{ℕ, _-_}
+use mathlib.Core.Path.{_≡_, sym, ap, _∙_}
+use borrow.Author.Needs.{needs}
+use Rattle.storage.proofs.without_bit.Statement.{statement}
+use Rattle.storage.proofs.without_bit.Tie as tie
+use Rattle.storage.proofs.without_bit.Reads as reads
+use Rattle.storage.proofs.without_bit.Lts as lts
+
+shr-if1 : tie.Need-shr-if1
+shr-if1 c = search needs
+
+returns : tie.Need-returns
+returns c = let s = c .before .args in sym (without-off (s .set) (s .k) (c .if1 .taken))
+
+shl-result : tie.Need-shl-result
+shl-result c = search needs
+
+sub-result : tie.Need-sub-result
+sub-result c = let s = c .before .args in let z : bit (s .set) (s .k) ≡ 1 = omega arith in let f = bit-there (s .set) (s .k) z in omega (arith, shifted-one (s .k) (omega arith))
+
+returns-2 : tie.Need-returns-2
+returns-2 c = let s = c .before .args in let z : bit (s .set) (s .k) ≡ 1 = omega arith in ap (λ (k : ℕ). s .set - k) (shifted-one (s .k) (omega arith)) ∙ sym (without-on (s .set) (s .k) z)
+
+pub without-bit-spec : {M : Type 1} → statement M
+without-bit-spec = tie.close (tie.spec shr-if1 returns shl-result sub-result returns-2)
