@@ -1,0 +1,1 @@
+// Closed images on which `goodImage` is computed: definitions only, in specs/.
