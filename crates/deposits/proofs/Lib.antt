@@ -1,2 +1,3 @@
+-- Lemmas for the functions' proofs.
 pub mod Steps
 pub mod Whole

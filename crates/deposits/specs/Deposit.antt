@@ -1,18 +1,18 @@
 -- Operations 2 `deposit` and 3 `deposit_with_fee`, and the parts that the other deposits share. l is the image, t the token's address;
 -- amounts stand as numbers (value plus bias).
-use mathlib.Core.List.{List, [], _∷_}
+use mathlib.Core.List.{List, [], _∷_, _++_}
 use Prim.Native.Nat.{ℕ, _+_, _-_}
 use lib.Dec.{ltb}
 use Rattle.outcome.specs.Outcome.{Outcome}
 use Rattle.checks.specs.Checks.{pausedNumber, sharedNumber, depositAmountNumber, approvedNumber, limitNumber}
-use Rattle.events.specs.Kinds.{depositedEvent}
-use Rattle.record.specs.Record.{callerOf, sequenceOf, signersOf, amountOf}
+use Rattle.events.specs.Kinds.{depositedEvent, tokenDepositedEvent}
+use Rattle.record.specs.Record.{callerOf, sequenceOf, signersOf, amountOf, feeOf}
 use Rattle.token.specs.Token.{transferNumber, transferOf}
 use Rattle.storage.specs.Setters.{setCredit, recordBalance, snapshotNumber}
 use Rattle.image.specs.Layout.{slot, defaultToken, vaultLimit, holding, credit}
-use Rattle.amount.specs.Value.{value}
 use Rattle.amount.specs.Biased.{bias}
-use Rattle.fields.specs.Rules.{pick, ne, Rule, when, verdict, chain}
+use Rattle.fields.specs.Rules.{pick, lt, leq, ne, Rule, when, verdict, chain}
+use Rattle.deposits.specs.Extra.{checked}
 
 -- from 10: token not approved; 7, 6 of the vault limit; 11 the snapshot of this sequence shows another holding
 unfoldable pub fundingNumber : List ℕ → ℕ → ℕ → ℕ → ℕ
@@ -23,16 +23,31 @@ fundingNumber l t seq n =
     ∷ snapshotNumber l t seq (holding l (slot t) 1)
     ∷ [])
 
--- 12: the vault's holding after the transfer is not as expected
-abbrev pub arrivedRules : List ℕ → ℕ → ℕ → ℕ → List Rule
-arrivedRules l t from n = when (ne (holding (transferOf l t from 1 n) (slot t) 1) (holding l (slot t) 1 + n - bias)) 12 ∷ []
+-- 7: the sum of two amounts passes 2 ^ 127 - 1
+abbrev pub overflowRules : ℕ → ℕ → List Rule
+overflowRules a n = when (leq (bias + bias + bias) (a + n)) 7 ∷ []
 
-unfoldable pub arrivedNumber : List ℕ → ℕ → ℕ → ℕ → ℕ
-arrivedNumber l t from n = verdict (arrivedRules l t from n)
+unfoldable pub overflowNumber : ℕ → ℕ → ℕ
+overflowNumber a n = verdict (overflowRules a n)
+
+-- 12: the vault's holding is not d, the one expected
+abbrev pub expectedRules : ℕ → ℕ → List Rule
+expectedRules h d = when (ne h d) 12 ∷ []
+
+unfoldable pub expectedNumber : ℕ → ℕ → ℕ
+expectedNumber h d = verdict (expectedRules h d)
+
+-- the vault's holding after the transfer, and the one expected
+abbrev pub depositHolding : List ℕ → ℕ → ℕ → ℕ → ℕ
+depositHolding l t from n = holding (transferOf l t from 1 n) (slot t) 1
+
+abbrev pub expectedHolding : List ℕ → ℕ → ℕ → ℕ
+expectedHolding l t n = holding l (slot t) 1 + n - bias
 
 -- 23 transfer fails; 12
 unfoldable pub receiveNumber : List ℕ → ℕ → ℕ → ℕ → ℕ
-receiveNumber l t from n = chain (transferNumber l t from 1 n ∷ arrivedNumber l t from n ∷ [])
+receiveNumber l t from n =
+    chain (transferNumber l t from 1 n ∷ expectedNumber (depositHolding l t from n) (expectedHolding l t n) ∷ [])
 
 -- the credit of an account with an amount added, where that fits
 unfoldable pub addCredit : List ℕ → ℕ → ℕ → ℕ → List ℕ
@@ -54,23 +69,47 @@ depositChecks l caller signers seq n =
     ∷ fundingNumber l (defaultToken l) seq n
     ∷ [])
 
--- and then 23; 12
-unfoldable pub depositNumber : List ℕ → ℕ → ℕ → ℕ → ℕ → ℕ
-depositNumber l caller signers seq n = chain (depositChecks l caller signers seq n ∷ receiveNumber l (defaultToken l) caller n ∷ [])
-
--- the vault's holding after it
-abbrev pub depositHolding : List ℕ → ℕ → ℕ → ℕ → ℕ
-depositHolding l t from n = holding (transferOf l t from 1 n) (slot t) 1
+-- a deposit with its number, its value and the image m that it leaves
+abbrev pub depositedOutcome : (number value : ℕ) → List ℕ → (t from n : ℕ) → List ℕ → Outcome
+depositedOutcome k v l t from n m =
+    record { number = k; value = v; events = depositedEvent from n (depositHolding l t from n) ∷ []; image = m }
 
 unfoldable pub depositOutcome : List ℕ → ℕ → ℕ → ℕ → ℕ → Outcome
 depositOutcome l caller signers seq n =
-    record {
-      number = depositNumber l caller signers seq n;
-      value = 0;
-      events = depositedEvent caller n (depositHolding l (defaultToken l) caller n) ∷ [];
-      image = depositImage l (defaultToken l) caller seq n;
-    }
+    let t = defaultToken l in
+    checked (depositChecks l caller signers seq n) (depositedOutcome (receiveNumber l t caller n) 0 l t caller n (depositImage l t caller seq n))
 
 -- operation 2, of a record
 abbrev pub deposit : List ℕ → List ℕ → Outcome
 deposit l r = depositOutcome l (callerOf r) (signersOf r) (sequenceOf r) (amountOf r)
+
+-- ---- operation 3
+-- 4: fee below 0, gross not above 0, or fee not below gross
+abbrev pub feeRules : ℕ → ℕ → List Rule
+feeRules gross fee = when (lt fee bias) 4 ∷ when (leq gross bias) 4 ∷ when (leq gross fee) 4 ∷ []
+
+unfoldable pub feeNumber : ℕ → ℕ → ℕ
+feeNumber gross fee = verdict (feeRules gross fee)
+
+-- and 5: gross above 10 ^ 30
+unfoldable pub grossNumber : ℕ → ℕ → ℕ
+grossNumber gross fee = chain (feeNumber gross fee ∷ depositAmountNumber gross ∷ [])
+
+abbrev pub netOf : ℕ → ℕ → ℕ
+netOf gross fee = gross + bias - fee
+
+-- then `deposit` of the net, with an event of its own after that of `deposit`
+unfoldable pub depositWithFeeOutcome : List ℕ → ℕ → ℕ → ℕ → ℕ → ℕ → Outcome
+depositWithFeeOutcome l caller signers seq gross fee =
+    let d = depositOutcome l caller signers seq (netOf gross fee) in
+    checked (grossNumber gross fee)
+    (record {
+      number = d .number;
+      value = 0;
+      events = d .events ++ (tokenDepositedEvent caller gross fee (netOf gross fee) ∷ []);
+      image = d .image;
+    })
+
+-- operation 3, of a record: its amount is the gross
+abbrev pub depositWithFee : List ℕ → List ℕ → Outcome
+depositWithFee l r = depositWithFeeOutcome l (callerOf r) (signersOf r) (sequenceOf r) (amountOf r) (feeOf r)

@@ -1,15 +1,10 @@
+-- `deposits::add_credit` meets its contract.
 use Rattle.deposits.proofs.Steps.{credit-fits, credit-kept}
 use native.Mathlib.Omega.{arith}
 use mathlib.Core.Path.{sym}
 use borrow.Author.Needs.{needs}
 use Rattle.deposits.proofs.add_credit.Statement.{statement}
 use Rattle.deposits.proofs.add_credit.Tie as tie
-use Rattle.deposits.proofs.add_credit.Reads as reads
-use Rattle.deposits.proofs.add_credit.Lts as lts
-use Rattle.amount.proofs.passes.Reads as passes-reads
-use Rattle.amount.proofs.plus.Reads as plus-reads
-use Rattle.amount.proofs.read_amount.Reads as read-amount-reads
-use Rattle.storage.proofs.set_token_account_balance.Reads as set-token-account-balance-reads
 
 sub-read-amount : tie.Need-sub-read-amount
 sub-read-amount c = search needs

@@ -1,3 +1,4 @@
+-- `deposits::deposit` meets its contract.
 use Rattle.record.specs.Laws.{caller-below}
 use Rattle.record.specs.Form.{readsCaller, member}
 use native.Mathlib.Omega.{arith}
@@ -5,13 +6,6 @@ use mathlib.Core.Path.{refl}
 use borrow.Author.Needs.{needs}
 use Rattle.deposits.proofs.deposit.Statement.{statement}
 use Rattle.deposits.proofs.deposit.Tie as tie
-use Rattle.deposits.proofs.deposit.Reads as reads
-use Rattle.deposits.proofs.deposit.Lts as lts
-use Rattle.deposits.proofs.deposit_of.Reads as deposit-of-reads
-use Rattle.record.proofs.amount.Reads as amount-reads
-use Rattle.record.proofs.caller.Reads as caller-reads
-use Rattle.record.proofs.sequence.Reads as sequence-reads
-use Rattle.record.proofs.signers.Reads as signers-reads
 
 caller-requires : tie.Need-caller-requires
 caller-requires c κs = search needs

@@ -1,19 +1,12 @@
+-- `deposits::deposit_checks` meets its contract.
 use Rattle.deposits.specs.Deposit.{depositChecks}
 use Rattle.checks.specs.Passed.{shared-free, deposit-amount-free}
 use Rattle.storage.specs.Writes.{default-range}
 use Rattle.fields.specs.Rules.{link-at, ends-at}
 use native.Mathlib.Omega.{arith}
-use mathlib.Core.Path.{refl}
 use borrow.Author.Needs.{needs}
 use Rattle.deposits.proofs.deposit_checks.Statement.{statement}
 use Rattle.deposits.proofs.deposit_checks.Tie as tie
-use Rattle.deposits.proofs.deposit_checks.Reads as reads
-use Rattle.deposits.proofs.deposit_checks.Lts as lts
-use Rattle.checks.proofs.deposit_amount_check.Reads as deposit-amount-check-reads
-use Rattle.checks.proofs.paused_check.Reads as paused-check-reads
-use Rattle.checks.proofs.shared_gate.Reads as shared-gate-reads
-use Rattle.deposits.proofs.funding_check.Reads as funding-check-reads
-use Rattle.fields.proofs.get8.Reads as get8-reads
 
 paused-check-requires : tie.Need-paused-check-requires
 paused-check-requires c κs = search needs

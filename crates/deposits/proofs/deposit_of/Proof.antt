@@ -1,20 +1,14 @@
-use Rattle.deposits.proofs.Whole.{blank-long, received-keys, checked-out, not-received, deposited}
-use Rattle.deposits.specs.Laws.{checks-passed}
+-- `deposits::deposit_of` meets its contract.
+use Rattle.deposits.proofs.Whole.{blank-long, moved-keys, deposited, settled-image, deposit-refused, deposit-passed}
+use Rattle.deposits.specs.Laws.{checks-passed, receive-free}
 use Rattle.outcome.specs.Outcome.{refused}
-use Rattle.amount.specs.Biased.{biased}
+use Rattle.amount.specs.Biased.{bias, biased}
+use mathlib.Core.Path.{sym, _∙_}
+use native.Mathlib.Nat.{add-zero}
 use native.Mathlib.Omega.{arith}
-use mathlib.Core.Path.{refl, sym, _∙_}
 use borrow.Author.Needs.{needs}
 use Rattle.deposits.proofs.deposit_of.Statement.{statement}
 use Rattle.deposits.proofs.deposit_of.Tie as tie
-use Rattle.deposits.proofs.deposit_of.Reads as reads
-use Rattle.deposits.proofs.deposit_of.Lts as lts
-use Rattle.deposits.proofs.deposit_checks.Reads as deposit-checks-reads
-use Rattle.deposits.proofs.receive.Reads as receive-reads
-use Rattle.deposits.proofs.settle.Reads as settle-reads
-use Rattle.fields.proofs.get8.Reads as get8-reads
-use Rattle.outcome.proofs.done.Reads as done-reads
-use Rattle.outcome.proofs.refuse.Reads as refuse-reads
 
 deposit-checks-requires : tie.Need-deposit-checks-requires
 deposit-checks-requires c κs = search needs
@@ -26,7 +20,7 @@ same-length : tie.Need-same-length
 same-length c = search needs
 
 returns : tie.Need-returns
-returns c = let x = c .before .before .before .before .before .before .args in refused _ (c .refuse .ensures) (checked-out (x .img .now) _ (x .caller) (x .signers) (x .sequence) (biased (x .n)) refl (c .before .before .deposit-checks .ensures) (c .before .if1 .taken)) (c .before .if1 .taken)
+returns c = let x = c .before .before .before .before .before .before .args in deposit-refused (x .img .now) (x .caller) (x .signers) (x .sequence) (biased (x .n)) (c .before .before .deposit-checks .ensures) (c .refuse .ensures) (c .before .if1 .taken)
 
 get8-requires : tie.Need-get8-requires
 get8-requires c κs = search needs
@@ -41,10 +35,10 @@ same-length-2 : tie.Need-same-length-2
 same-length-2 c = search needs
 
 returns-2 : tie.Need-returns-2
-returns-2 c = let x = c .before .before .before .before .before .before .before .before .before .before .before .before .before .args in refused _ (c .refuse2 .ensures) (not-received (x .img .now) _ (x .caller) (x .signers) (x .sequence) (biased (x .n)) (c .before .before .before .before .before .before .get8 .ensures) (c .before .before .before .before .before .before .before .before .before .deposit-checks .ensures) (c .before .before .before .before .before .before .before .before .if1 .left) (c .before .before .before .before .receive .ensures .0) (c .before .if2 .taken)) (c .before .if2 .taken)
+returns-2 c = let x = c .before .before .before .before .before .before .before .before .before .before .before .before .before .args in deposit-passed (x .img .now) (x .caller) (x .signers) (x .sequence) (biased (x .n)) (c .before .before .before .before .before .before .before .before .before .deposit-checks .ensures) _ (c .before .before .before .before .before .before .get8 .ensures) (c .before .before .before .before .before .before .before .before .if1 .left) (refused _ (c .refuse2 .ensures) (c .before .before .before .before .receive .ensures .0) (c .before .if2 .taken))
 
 settle-requires : tie.Need-settle-requires
-settle-requires c κs = let s = c .before .before .before .before .before .before .before .before .before .before .before .before .before .before in let f = checks-passed (s .args .img .now) _ _ _ _ (biased (s .args .n)) (s .pre .0) (c .before .before .before .before .before .before .before .get8 .ensures) (c .before .before .before .before .before .before .before .before .before .before .deposit-checks .ensures) (c .before .before .before .before .before .before .before .before .before .if1 .left) in (omega (arith, c .before .before .before .before .before), received-keys (s .args .img .now) _ _ _ (s .pre .0) (s .pre .1) (omega arith) (c .before .before .before .before .before .receive .ensures .0) (c .before .before .if2 .left) (c .before .before .before .before .before .receive .ensures .1 (c .before .before .if2 .left)), f .low, f .high, omega (arith, s), omega arith, blank-long (s .pre .2))
+settle-requires c κs = let s = c .before .before .before .before .before .before .before .before .before .before .before .before .before .before in let f = checks-passed (s .args .img .now) _ _ _ _ (biased (s .args .n)) (s .pre .0) (c .before .before .before .before .before .before .before .get8 .ensures) (c .before .before .before .before .before .before .before .before .before .before .deposit-checks .ensures) (c .before .before .before .before .before .before .before .before .before .if1 .left) in (omega (arith, c .before .before .before .before .before .receive), moved-keys (s .args .img .now) _ _ _ (s .pre .0) (s .pre .1) (omega arith) (receive-free (s .args .img .now) _ _ _ (c .before .before .before .before .before .receive .ensures .0) (c .before .before .if2 .left) .0) (c .before .before .before .before .before .receive .ensures .1 (c .before .before .if2 .left)), f .low, f .high, omega (arith, s), omega arith, blank-long (s .pre .2))
 
 done-requires : tie.Need-done-requires
 done-requires c κs = search needs
@@ -56,7 +50,7 @@ same-length-4 : tie.Need-same-length-4
 same-length-4 c = search needs
 
 returns-3 : tie.Need-returns-3
-returns-3 c = let s = c .before .before .before .before .before .before .before .before .before .before .before .before .before .before .before .before .before .before .before .before in let x = s .args in deposited (x .img .now) _ (x .caller) (x .signers) (x .sequence) (biased (x .n)) (c .before .before .before .before .before .before .before .before .before .before .before .before .before .get8 .ensures) (c .before .before .before .before .before .before .before .before .before .before .before .before .before .before .before .before .deposit-checks .ensures) (c .before .before .before .before .before .before .before .before .before .before .before .before .before .before .before .if1 .left) (c .before .before .before .before .before .before .before .before .before .before .before .receive .ensures .0) (x .events .now) (c .before .before .before .before .before .before .before .before .if2 .left) (c .before .before .before .before .before .before .before .before .before .before .before .receive .ensures .1 (c .before .before .before .before .before .before .before .before .if2 .left)) (s .pre .2) (c .before .before .before .before .before .settle .ensures) (c .done .ensures)
+returns-3 c = let s = c .before .before .before .before .before .before .before .before .before .before .before .before .before .before .before .before .before .before .before .before in let x = s .args in let d = c .done .ensures in deposit-passed (x .img .now) (x .caller) (x .signers) (x .sequence) (biased (x .n)) (c .before .before .before .before .before .before .before .before .before .before .before .before .before .before .before .before .deposit-checks .ensures) _ (c .before .before .before .before .before .before .before .before .before .before .before .before .before .get8 .ensures) (c .before .before .before .before .before .before .before .before .before .before .before .before .before .before .before .if1 .left) (deposited _ 0 (x .img .now) _ (x .caller) (biased (x .n)) (x .events .now) (sym (c .before .before .before .before .before .before .before .before .before .before .before .receive .ensures .0) ∙ c .before .before .before .before .before .before .before .before .if2 .left) (c .before .before .before .before .before .before .before .before .before .before .before .receive .ensures .1 (c .before .before .before .before .before .before .before .before .if2 .left)) (s .pre .2) (settled-image (x .img .now) _ (x .caller) (x .sequence) (biased (x .n)) (c .before .before .before .before .before .before .before .before .before .before .before .receive .ensures .1 (c .before .before .before .before .before .before .before .before .if2 .left)) (c .before .before .before .before .before .settle .ensures .0)) (c .before .before .before .before .before .settle .ensures .1) (d .0) (d .1 ∙ sym (add-zero bias)) (d .2))
 
 pub deposit-of-spec : {M : Type 1} → statement M
 deposit-of-spec =

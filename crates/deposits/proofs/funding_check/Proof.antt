@@ -1,16 +1,10 @@
+-- `deposits::funding_check` meets its contract.
 use Rattle.deposits.specs.Deposit.{fundingNumber}
 use Rattle.fields.specs.Rules.{link-at, ends-at}
 use native.Mathlib.Omega.{arith}
 use borrow.Author.Needs.{needs}
 use Rattle.deposits.proofs.funding_check.Statement.{statement}
 use Rattle.deposits.proofs.funding_check.Tie as tie
-use Rattle.deposits.proofs.funding_check.Reads as reads
-use Rattle.deposits.proofs.funding_check.Lts as lts
-use Rattle.amount.proofs.read_amount.Reads as read-amount-reads
-use Rattle.checks.proofs.approved_check.Reads as approved-check-reads
-use Rattle.checks.proofs.limit_check.Reads as limit-check-reads
-use Rattle.storage.proofs.check_vault_balance.Reads as check-vault-balance-reads
-use Rattle.token.proofs.balance.Reads as balance-reads
 
 approved-check-requires : tie.Need-approved-check-requires
 approved-check-requires c κs = search needs

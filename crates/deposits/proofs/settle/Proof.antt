@@ -1,13 +1,7 @@
+-- `deposits::settle` meets its contract.
 use borrow.Author.Needs.{needs}
 use Rattle.deposits.proofs.settle.Statement.{statement}
 use Rattle.deposits.proofs.settle.Tie as tie
-use Rattle.deposits.proofs.settle.Reads as reads
-use Rattle.deposits.proofs.settle.Lts as lts
-use Rattle.deposits.proofs.add_credit.Reads as add-credit-reads
-use Rattle.events.proofs.deposited.Reads as deposited-reads
-use Rattle.events.proofs.put_event.Reads as put-event-reads
-use Rattle.storage.proofs.record_vault_balance.Reads as record-vault-balance-reads
-use Rattle.token.proofs.balance.Reads as balance-reads
 
 balance-requires : tie.Need-balance-requires
 balance-requires c κs = search needs

@@ -1,0 +1,3 @@
+-- Lemmas for the functions' proofs.
+pub mod Loops
+pub mod Whole

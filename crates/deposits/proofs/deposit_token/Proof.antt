@@ -1,0 +1,50 @@
+-- `deposits::deposit_token` meets its contract.
+use Rattle.record.specs.Laws.{caller-below, token-below}
+use Rattle.record.specs.Form.{readsCaller, readsToken, member}
+use mathlib.Core.Path.{refl}
+use native.Mathlib.Omega.{arith}
+use borrow.Author.Needs.{needs}
+use Rattle.deposits.proofs.deposit_token.Statement.{statement}
+use Rattle.deposits.proofs.deposit_token.Tie as tie
+
+caller-requires : tie.Need-caller-requires
+caller-requires c κs = search needs
+
+signers-requires : tie.Need-signers-requires
+signers-requires c κs = search needs
+
+sequence-requires : tie.Need-sequence-requires
+sequence-requires c κs = search needs
+
+token-requires : tie.Need-token-requires
+token-requires c κs = search needs
+
+amount-requires : tie.Need-amount-requires
+amount-requires c κs = search needs
+
+deposit-token-of-requires : tie.Need-deposit-token-of-requires
+unfolding readsCaller readsToken member
+deposit-token-of-requires c κs = let s = c .before .before .before .before .before .before .before .before .before .before in let f = s .pre .1 in (s .pre .0, omega (arith, caller-below (s .args .rec .now) 7 (f .formed) (f .operation) refl), omega (arith, token-below (s .args .rec .now) 7 (f .formed) (f .operation) refl), s .pre .2)
+
+same-length : tie.Need-same-length
+same-length c = search needs
+
+same-length-2 : tie.Need-same-length-2
+same-length-2 c = search needs
+
+returns : tie.Need-returns
+returns c = rw (c .before .before .before .before .before .before .before .before .before .before .before .caller .ensures, c .before .before .before .before .before .before .before .before .before .before .signers .ensures, c .before .before .before .before .before .before .before .before .before .sequence .ensures, c .before .before .before .before .before .before .before .before .token .ensures, c .before .before .before .before .before .amount .ensures) at (c .before .before .before .before .deposit-token-of .ensures)
+
+pub deposit-token-spec : {M : Type 1} → statement M
+deposit-token-spec =
+    tie.close
+    (tie.spec
+    caller-requires
+    signers-requires
+    sequence-requires
+    token-requires
+    amount-requires
+    deposit-token-of-requires
+    same-length
+    same-length-2
+    returns)

@@ -1,0 +1,46 @@
+-- `deposits::deposit_with_failure_report` meets its contract.
+use Rattle.record.specs.Laws.{caller-below}
+use Rattle.record.specs.Form.{readsCaller, member}
+use mathlib.Core.Path.{refl}
+use native.Mathlib.Omega.{arith}
+use borrow.Author.Needs.{needs}
+use Rattle.deposits.proofs.deposit_with_failure_report.Statement.{statement}
+use Rattle.deposits.proofs.deposit_with_failure_report.Tie as tie
+
+caller-requires : tie.Need-caller-requires
+caller-requires c κs = search needs
+
+signers-requires : tie.Need-signers-requires
+signers-requires c κs = search needs
+
+sequence-requires : tie.Need-sequence-requires
+sequence-requires c κs = search needs
+
+amount-requires : tie.Need-amount-requires
+amount-requires c κs = search needs
+
+deposit-with-failure-report-of-requires : tie.Need-deposit-with-failure-report-of-requires
+unfolding readsCaller member
+deposit-with-failure-report-of-requires c κs = let s = c .before .before .before .before .before .before .before .before .before in let f = s .pre .1 in (s .pre .0, omega (arith, caller-below (s .args .rec .now) 9 (f .formed) (f .operation) refl), s .pre .2)
+
+same-length : tie.Need-same-length
+same-length c = search needs
+
+same-length-2 : tie.Need-same-length-2
+same-length-2 c = search needs
+
+returns : tie.Need-returns
+returns c = rw (c .before .before .before .before .before .before .before .before .before .before .caller .ensures, c .before .before .before .before .before .before .before .before .before .signers .ensures, c .before .before .before .before .before .before .before .before .sequence .ensures, c .before .before .before .before .before .amount .ensures) at (c .before .before .before .before .deposit-with-failure-report-of .ensures)
+
+pub deposit-with-failure-report-spec : {M : Type 1} → statement M
+deposit-with-failure-report-spec =
+    tie.close
+    (tie.spec
+    caller-requires
+    signers-requires
+    sequence-requires
+    amount-requires
+    deposit-with-failure-report-of-requires
+    same-length
+    same-length-2
+    returns)

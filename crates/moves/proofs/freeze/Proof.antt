@@ -1,0 +1,32 @@
+-- `moves::freeze` meets its contract.
+use borrow.Author.Needs.{needs}
+use Rattle.moves.proofs.freeze.Statement.{statement}
+use Rattle.moves.proofs.freeze.Tie as tie
+use Rattle.moves.proofs.freeze.Reads as reads
+use Rattle.moves.proofs.freeze.Lts as lts
+use Rattle.moves.proofs.freeze_of.Reads as freeze-of-reads
+use Rattle.record.proofs.flag.Reads as flag-reads
+use Rattle.record.proofs.token.Reads as token-reads
+
+token-requires : tie.Need-token-requires
+token-requires c κs = search needs
+
+flag-requires : tie.Need-flag-requires
+flag-requires c κs = search needs
+
+freeze-of-requires : tie.Need-freeze-of-requires
+freeze-of-requires c κs = search needs
+
+same-length : tie.Need-same-length
+same-length c = search needs
+
+same-length-2 : tie.Need-same-length-2
+same-length-2 c = search needs
+
+returns : tie.Need-returns
+returns c = rw (c .before .before .before .before .before .before .before .before .token .ensures, c .before .before .before .before .before .flag .ensures) at (c .before .before .before .before .freeze-of .ensures)
+
+pub freeze-spec : {M : Type 1} → statement M
+freeze-spec =
+    tie.close
+    (tie.spec token-requires flag-requires freeze-of-requires same-length same-length-2 returns)

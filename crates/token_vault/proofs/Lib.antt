@@ -1,0 +1,4 @@
+pub mod Dispatched
+pub mod Owed
+pub mod Demanded
+pub mod Called

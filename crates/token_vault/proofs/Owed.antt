@@ -1,0 +1,256 @@
+-- What the operations owe, put together: an accepted call leaves the image good, and moves image and book alike.
+use mathlib.Core.Path.{_≡_, refl, sym, ap, _∙_}
+use mathlib.Core.Bool.{Bool, true, false}
+use mathlib.Core.List.{List, [], _∷_}
+use Prim.Native.Nat.{ℕ, zero, suc}
+use native.Mathlib.Omega.{arith}
+use borrow.Author.Tests.{eqb-true}
+use lib.Dec.{eqb}
+use Rattle.views.specs.Views.{balanceOutcome, effectiveOutcome, accountOutcome, approvedOutcome, compliantOutcome}
+use Rattle.moves.specs.Owed.{outside-move-owed, freeze-owed}
+use Rattle.migration.specs.Owed.{initiate-emergency-migration-owed, execute-emergency-migration-owed, cancel-emergency-migration-owed}
+use Rattle.handover.specs.Owed.{propose-owner-owed, accept-owner-owed, set-owner-proposal-ttl-owed}
+use Rattle.payouts.specs.Owed.{withdraw-owed, withdraw-batch-owed, withdraw-token-owed}
+use Rattle.setup.specs.Owed.{approve-token-owed, initialize-owed}
+use Rattle.settings.specs.Owed.{pause-owed, unpause-owed, set-operator-owed, revoke-operator-owed, set-operator-withdraw-limit-owed, set-limit-owed, set-token-max-limit-owed}
+use Rattle.batch_deposits.specs.Owed.{batch-deposit-owed}
+use Rattle.deposits.specs.Owed.{deposit-owed, deposit-with-fee-owed, deposit-token-owed, deposit-with-failure-report-owed}
+use Rattle.book.specs.Book.{Book, enterBook, BookIs}
+use Rattle.outcome.specs.Outcome.{Outcome, views, formed-as}
+use Rattle.events.specs.Event.{eventBuffer}
+use Rattle.record.specs.Form.{member, isView, formNumber}
+use Rattle.record.specs.Record.{operationOf}
+use Rattle.storage.specs.Facts.{Good}
+use Rattle.fields.specs.Rules.{pick, unlinked}
+use Rattle.token_vault.specs.Vault.{operations, outcomeAt, outcomeOf, callNumber, byForm, op, view}
+
+-- what an accepted call has shown, and what it leaves
+pub record Accepted (l r e : List ℕ) : Type 0 where
+  pub formed : formNumber r ≡ 0
+  pub agreed : outcomeOf l r .number ≡ 0
+  pub left : op l r e .image ≡ outcomeOf l r .image
+  pub said : op l r e .answer .events ≡ eventBuffer (outcomeOf l r .events)
+
+pub form-zero : (r e : List ℕ) → callNumber r e ≡ 0 → formNumber r ≡ 0
+unfolding callNumber
+form-zero r e q = unlinked _ q .0
+
+pub accepted-call : (l r e : List ℕ) → op l r e .answer .number ≡ 0 → Accepted l r e
+unfolding op
+accepted-call l r e z = go (callNumber r e) (outcomeOf l r .number) refl refl z
+  where
+    go : (k n : ℕ) → callNumber r e ≡ k → outcomeOf l r .number ≡ n → byForm k (outcomeOf l r) l e .answer .number ≡ 0 → Accepted l r e
+    go zero zero p q z = record { formed = form-zero r e p; agreed = q; left = rw (p, q); said = rw (p, q) }
+    go zero (suc n) p q z = absurd (let w : suc n ≡ 0 = rw q at z in omega arith)
+    go (suc k) n p q z = absurd (omega arith)
+
+-- what holds of each row of a table, where the number is the row's, and of the outcome that stands for no row, holds of the outcome at a number
+abbrev pub AllRows : (Outcome → Type 0) → ℕ → List (ℕ × Outcome) → Type 0
+AllRows P o [] = Unit {0}
+AllRows P o (row ∷ rows) = (o ≡ row .0 → P (row .1)) × AllRows P o rows
+
+pub chosen : (P : Outcome → Type 0) (o : ℕ) (rows : List (ℕ × Outcome)) (l : List ℕ) → AllRows P o rows → P (views 32 0 l) → P (outcomeAt o rows l)
+chosen P o [] l h d = d
+chosen P o (row ∷ rows) l h d = go (eqb o (row .0)) refl (chosen P o rows l (h .1) d)
+  where
+    go : (b : Bool) → eqb o (row .0) ≡ b → P (outcomeAt o rows l) → P (pick b (row .1) (outcomeAt o rows l))
+    go true e q = h .0 (eqb-true o (row .0) e)
+    go false e q = q
+
+module _ (l r : List ℕ) (g : Good l) (f : formNumber r ≡ 0) where
+  pub outcome-good : outcomeOf l r .number ≡ 0 → Good (outcomeOf l r .image)
+  unfolding outcomeOf balanceOutcome effectiveOutcome accountOutcome approvedOutcome compliantOutcome
+  outcome-good =
+      chosen (λ (x : Outcome). x .number ≡ 0 → Good (x .image)) (operationOf r) (operations l r) l (
+        λ o z. initialize-owed .good l r g (formed-as 1 r f o) z,
+        (
+          λ o z. deposit-owed .good l r g (formed-as 2 r f o) z,
+          (
+            λ o z. deposit-with-fee-owed .good l r g (formed-as 3 r f o) z,
+            (
+              λ o z. batch-deposit-owed .good l r g (formed-as 4 r f o) z,
+              (
+                λ o z. withdraw-owed .good l r g (formed-as 5 r f o) z,
+                (
+                  λ o z. withdraw-batch-owed .good l r g (formed-as 6 r f o) z,
+                  (
+                    λ o z. deposit-token-owed .good l r g (formed-as 7 r f o) z,
+                    (
+                      λ o z. withdraw-token-owed .good l r g (formed-as 8 r f o) z,
+                      (
+                        λ o z. deposit-with-failure-report-owed .good l r g (formed-as 9 r f o) z,
+                        (
+                          λ o z. set-operator-withdraw-limit-owed .good l r g (formed-as 10 r f o) z,
+                          (
+                            λ o z. set-limit-owed .good l r g (formed-as 11 r f o) z,
+                            (
+                              λ o z. set-token-max-limit-owed .good l r g (formed-as 12 r f o) z,
+                              (
+                                λ o z. set-operator-owed .good l r g (formed-as 13 r f o) z,
+                                (
+                                  λ o z. revoke-operator-owed .good l r g (formed-as 14 r f o) z,
+                                  (
+                                    λ o z. propose-owner-owed .good l r g (formed-as 15 r f o) z,
+                                    (
+                                      λ o z. accept-owner-owed .good l r g (formed-as 16 r f o) z,
+                                      (
+                                        λ o z. set-owner-proposal-ttl-owed .good l r g (formed-as 17 r f o) z,
+                                        (
+                                          λ o z. pause-owed .good l r g (formed-as 18 r f o) z,
+                                          (
+                                            λ o z. unpause-owed .good l r g (formed-as 19 r f o) z,
+                                            (
+                                              λ o z. approve-token-owed .good l r g (formed-as 20 r f o) z,
+                                              (
+                                                λ o z. initiate-emergency-migration-owed .good l r g (formed-as 21 r f o) z,
+                                                (
+                                                  λ o z. execute-emergency-migration-owed .good l r g (formed-as 22 r f o) z,
+                                                  (
+                                                    λ o z. cancel-emergency-migration-owed .good l r g (formed-as 23 r f o) z,
+                                                    (
+                                                      λ o z. g,
+                                                      (
+                                                        λ o z. g,
+                                                        (
+                                                          λ o z. g,
+                                                          (
+                                                            λ o z. g,
+                                                            (
+                                                              λ o z. g,
+                                                              (
+                                                                λ o z. outside-move-owed .good l r g (formed-as 29 r f o) z,
+                                                                (
+                                                                  λ o z. freeze-owed .good l r g (formed-as 30 r f o) z,
+                                                                  tt,
+                                                                ),
+                                                              ),
+                                                            ),
+                                                          ),
+                                                        ),
+                                                      ),
+                                                    ),
+                                                  ),
+                                                ),
+                                              ),
+                                            ),
+                                          ),
+                                        ),
+                                      ),
+                                    ),
+                                  ),
+                                ),
+                              ),
+                            ),
+                          ),
+                        ),
+                      ),
+                    ),
+                  ),
+                ),
+              ),
+            ),
+          ),
+        ),
+      )
+      (λ z. g)
+
+  module _ (b : Book) (m : BookIs b l) (v : view r ≡ false) where
+    no-view : (k : ℕ) → operationOf r ≡ k → isView k ≡ true → ⊥
+    unfolding view
+    no-view k o q = let z : true ≡ false = sym q ∙ (sym (ap isView o) ∙ v) in let w : _≡_ {A = ℕ} 0 1 = cc in omega arith
+
+    pub outcome-booked : outcomeOf l r .number ≡ 0 → BookIs (enterBook b r (eventBuffer (outcomeOf l r .events))) (outcomeOf l r .image)
+    unfolding outcomeOf isView member
+    outcome-booked =
+        chosen (λ (x : Outcome). x .number ≡ 0 → BookIs (enterBook b r (eventBuffer (x .events))) (x .image)) (operationOf r) (operations l r) l (
+          λ o z. initialize-owed .booked b l r g (formed-as 1 r f o) z m,
+          (
+            λ o z. deposit-owed .booked b l r g (formed-as 2 r f o) z m,
+            (
+              λ o z. deposit-with-fee-owed .booked b l r g (formed-as 3 r f o) z m,
+              (
+                λ o z. batch-deposit-owed .booked b l r g (formed-as 4 r f o) z m,
+                (
+                  λ o z. withdraw-owed .booked b l r g (formed-as 5 r f o) z m,
+                  (
+                    λ o z. withdraw-batch-owed .booked b l r g (formed-as 6 r f o) z m,
+                    (
+                      λ o z. deposit-token-owed .booked b l r g (formed-as 7 r f o) z m,
+                      (
+                        λ o z. withdraw-token-owed .booked b l r g (formed-as 8 r f o) z m,
+                        (
+                          λ o z. deposit-with-failure-report-owed .booked b l r g (formed-as 9 r f o) z m,
+                          (
+                            λ o z. set-operator-withdraw-limit-owed .booked b l r g (formed-as 10 r f o) z m,
+                            (
+                              λ o z. set-limit-owed .booked b l r g (formed-as 11 r f o) z m,
+                              (
+                                λ o z. set-token-max-limit-owed .booked b l r g (formed-as 12 r f o) z m,
+                                (
+                                  λ o z. set-operator-owed .booked b l r g (formed-as 13 r f o) z m,
+                                  (
+                                    λ o z. revoke-operator-owed .booked b l r g (formed-as 14 r f o) z m,
+                                    (
+                                      λ o z. propose-owner-owed .booked b l r g (formed-as 15 r f o) z m,
+                                      (
+                                        λ o z. accept-owner-owed .booked b l r g (formed-as 16 r f o) z m,
+                                        (
+                                          λ o z. set-owner-proposal-ttl-owed .booked b l r g (formed-as 17 r f o) z m,
+                                          (
+                                            λ o z. pause-owed .booked b l r g (formed-as 18 r f o) z m,
+                                            (
+                                              λ o z. unpause-owed .booked b l r g (formed-as 19 r f o) z m,
+                                              (
+                                                λ o z. approve-token-owed .booked b l r g (formed-as 20 r f o) z m,
+                                                (
+                                                  λ o z. initiate-emergency-migration-owed .booked b l r g (formed-as 21 r f o) z m,
+                                                  (
+                                                    λ o z. execute-emergency-migration-owed .booked b l r g (formed-as 22 r f o) z m,
+                                                    (
+                                                      λ o z. cancel-emergency-migration-owed .booked b l r g (formed-as 23 r f o) z m,
+                                                      (
+                                                        λ o z. absurd (no-view 24 o refl),
+                                                        (
+                                                          λ o z. absurd (no-view 25 o refl),
+                                                          (
+                                                            λ o z. absurd (no-view 26 o refl),
+                                                            (
+                                                              λ o z. absurd (no-view 27 o refl),
+                                                              (
+                                                                λ o z. absurd (no-view 28 o refl),
+                                                                (
+                                                                  λ o z. outside-move-owed .booked b l r g (formed-as 29 r f o) z m,
+                                                                  (
+                                                                    λ o z. freeze-owed .booked b l r g (formed-as 30 r f o) z m,
+                                                                    tt,
+                                                                  ),
+                                                                ),
+                                                              ),
+                                                            ),
+                                                          ),
+                                                        ),
+                                                      ),
+                                                    ),
+                                                  ),
+                                                ),
+                                              ),
+                                            ),
+                                          ),
+                                        ),
+                                      ),
+                                    ),
+                                  ),
+                                ),
+                              ),
+                            ),
+                          ),
+                        ),
+                      ),
+                    ),
+                  ),
+                ),
+              ),
+            ),
+          ),
+        )
+        (λ z. absurd (omega arith))

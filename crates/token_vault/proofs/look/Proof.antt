@@ -1,0 +1,83 @@
+use Rattle.token_vault.proofs.Dispatched.{no-view}
+use Rattle.token_vault.specs.Vault.{outcomeOf}
+use Rattle.outcome.specs.Outcome.{formed-as}
+use Rattle.record.specs.Form.{isView}
+use borrow.Author.Tests.{ne-eqb}
+use mathlib.Core.Bool.{true}
+use mathlib.Core.Path.{refl, sym, ap, _∙_}
+use native.Mathlib.Omega.{arith}
+use borrow.Author.Needs.{needs}
+use Rattle.token_vault.proofs.look.Statement.{statement}
+use Rattle.token_vault.proofs.look.Tie as tie
+use Rattle.token_vault.proofs.look.Reads as reads
+use Rattle.token_vault.proofs.look.Lts as lts
+use Rattle.outcome.proofs.refuse.Reads as refuse-reads
+use Rattle.record.proofs.operation.Reads as operation-reads
+use Rattle.views.proofs.balance.Reads as balance-reads
+use Rattle.views.proofs.effective_withdraw_limit.Reads as effective-withdraw-limit-reads
+use Rattle.views.proofs.get_token_account_balance.Reads as get-token-account-balance-reads
+use Rattle.views.proofs.is_token_approved.Reads as is-token-approved-reads
+use Rattle.views.proofs.is_token_compliant.Reads as is-token-compliant-reads
+
+operation-requires : tie.Need-operation-requires
+operation-requires c κs = search needs
+
+balance-requires : tie.Need-balance-requires
+balance-requires c κs = let s = c .before .before .before .before in (s .pre .0, formed-as 24 (s .args .rec .now) (s .pre .1) (sym (c .before .operation .ensures) ∙ c .match .keys1))
+
+effective-withdraw-limit-requires : tie.Need-effective-withdraw-limit-requires
+effective-withdraw-limit-requires c κs = let s = c .before .before .before .before in (s .pre .0, formed-as 25 (s .args .rec .now) (s .pre .1) (sym (c .before .operation .ensures) ∙ c .match .keys2))
+
+get-token-account-balance-requires : tie.Need-get-token-account-balance-requires
+get-token-account-balance-requires c κs = let s = c .before .before .before .before in (s .pre .0, formed-as 26 (s .args .rec .now) (s .pre .1) (sym (c .before .operation .ensures) ∙ c .match .keys3))
+
+is-token-approved-requires : tie.Need-is-token-approved-requires
+is-token-approved-requires c κs = let s = c .before .before .before .before in (s .pre .0, formed-as 27 (s .args .rec .now) (s .pre .1) (sym (c .before .operation .ensures) ∙ c .match .keys4))
+
+is-token-compliant-requires : tie.Need-is-token-compliant-requires
+is-token-compliant-requires c κs = let s = c .before .before .before .before in (s .pre .0, formed-as 28 (s .args .rec .now) (s .pre .1) (sym (c .before .operation .ensures) ∙ c .match .keys5))
+
+refuse-requires : tie.Need-refuse-requires
+refuse-requires c κs = search needs
+
+returns : tie.Need-returns
+unfolding outcomeOf
+returns c = rw (sym (c .before .before .operation .ensures) ∙ c .before .match .keys1) (c .balance .ensures)
+
+returns-2 : tie.Need-returns-2
+unfolding outcomeOf
+returns-2 c = rw (sym (c .before .before .operation .ensures) ∙ c .before .match .keys2) (c .effective-withdraw-limit .ensures)
+
+returns-3 : tie.Need-returns-3
+unfolding outcomeOf
+returns-3 c = rw (sym (c .before .before .operation .ensures) ∙ c .before .match .keys3) (c .get-token-account-balance .ensures)
+
+returns-4 : tie.Need-returns-4
+unfolding outcomeOf
+returns-4 c = rw (sym (c .before .before .operation .ensures) ∙ c .before .match .keys4) (c .is-token-approved .ensures)
+
+returns-5 : tie.Need-returns-5
+unfolding outcomeOf
+returns-5 c = rw (sym (c .before .before .operation .ensures) ∙ c .before .match .keys5) (c .is-token-compliant .ensures)
+
+returns-6 : tie.Need-returns-6
+unfolding outcomeOf
+returns-6 c = let s = c .before .before .before .before .before in let r = c .before .match .rest in absurd (no-view (c .before .before .operation .result) (r .0 .0 .0 .0 .1) (r .0 .0 .0 .1) (r .0 .0 .1) (r .0 .1) (r .1) (ap isView (c .before .before .operation .ensures) ∙ s .pre .2))
+
+pub look-spec : {M : Type 1} → statement M
+look-spec =
+    tie.close
+    (tie.spec
+    operation-requires
+    balance-requires
+    effective-withdraw-limit-requires
+    get-token-account-balance-requires
+    is-token-approved-requires
+    is-token-compliant-requires
+    refuse-requires
+    returns
+    returns-2
+    returns-3
+    returns-4
+    returns-5
+    returns-6)

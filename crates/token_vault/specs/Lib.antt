@@ -1,0 +1,3 @@
+pub mod Vault
+pub mod Public
+pub mod Demand

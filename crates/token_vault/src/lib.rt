@@ -1,0 +1,266 @@
+// The token vault: its public calls. Any bytes of any length get an answer.
+use amount::Amount;
+use outcome::Answer;
+ghost use mathlib.Core.Path.{_≡_};
+ghost use mathlib.Core.Bool.{true, false};
+ghost use mathlib.Core.List.{[]};
+ghost use Prim.Native.Nat.{ℕ, _≤_};
+ghost use lib.ListN.{length};
+ghost use Rattle.amount.specs.Biased.{bias, biased};
+ghost use Rattle.events.specs.Splice.{amountBytes};
+ghost use Rattle.image.specs.Good.{goodImage};
+ghost use Rattle.image.specs.Layout.{imageLength, cells};
+ghost use Rattle.storage.specs.Facts.{Good};
+ghost use Rattle.record.specs.Record.{operationOf};
+ghost use Rattle.record.specs.Form.{formNumber, isView};
+ghost use Rattle.events.specs.Event.{eventBuffer};
+ghost use Rattle.outcome.specs.Outcome.{Does, Views};
+ghost use Rattle.journal.specs.Calls.{Call};
+ghost use Rattle.journal.specs.Journal.{goodJournal};
+ghost use Rattle.journal.specs.Step.{vault, operated, begun, committed, rolledBack, undone};
+ghost use Rattle.token_vault.specs.Vault.{outcomeOf, callNumber, op, view, vaultStep};
+ghost use Rattle.token_vault.specs.Demand.{Demand3};
+ghost use Rattle.token_vault.specs.Public.{CallIs, CallAlone, closedJournal, JournalIs, Replies, Answers, Tries, Keeps};
+
+fn operate(img: &mut [u8], rec: &[u8], events: &mut [u8]) -> Answer
+    requires { ⌜ Good (now img) × (formNumber (now rec) ≡ 0) × (isView (operationOf (now rec)) ≡ false) × (now events ≡ eventBuffer []) × (length (now rec) ≡ 448) ⌝ }
+    ensures { λ r. ⌜ Does (outcomeOf (now (img .entry)) (now (rec .entry))) r (now (img .exit)) (now (events .exit)) ⌝ }
+{
+    let o = record::operation(rec);
+    match o {
+        1 => setup::initialize(img, rec, events),
+        2 => deposits::deposit(img, rec, events),
+        3 => deposits::deposit_with_fee(img, rec, events),
+        4 => batch_deposits::batch_deposit(img, rec, events),
+        5 => payouts::withdraw(img, rec, events),
+        6 => payouts::withdraw_batch(img, rec, events),
+        7 => deposits::deposit_token(img, rec, events),
+        8 => payouts::withdraw_token(img, rec, events),
+        9 => deposits::deposit_with_failure_report(img, rec, events),
+        10 => settings::set_operator_withdraw_limit(img, rec, events),
+        11 => settings::set_limit(img, rec, events),
+        12 => settings::set_token_max_limit(img, rec, events),
+        13 => settings::set_operator(img, rec, events),
+        14 => settings::revoke_operator(img, rec, events),
+        15 => handover::propose_owner(img, rec, events),
+        16 => handover::accept_owner(img, rec, events),
+        17 => handover::set_owner_proposal_ttl(img, rec, events),
+        18 => settings::pause(img, rec, events),
+        19 => settings::unpause(img, rec, events),
+        20 => setup::approve_token(img, rec, events),
+        21 => migration::initiate_emergency_migration(img, rec, events),
+        22 => migration::execute_emergency_migration(img, rec, events),
+        23 => migration::cancel_emergency_migration(img, rec, events),
+        29 => moves::outside_move(img, rec, events),
+        30 => moves::freeze(img, rec, events),
+        _ => outcome::refuse(32),
+    }
+}
+
+fn look(img: &[u8], rec: &[u8]) -> Answer
+    requires { ⌜ Good (now img) × (formNumber (now rec) ≡ 0) × (isView (operationOf (now rec)) ≡ true) × (length (now rec) ≡ 448) ⌝ }
+    ensures { λ r. ⌜ Views (outcomeOf (now (img .entry)) (now (rec .entry))) r ⌝ }
+{
+    let o = record::operation(rec);
+    match o {
+        24 => views::balance(img, rec),
+        25 => views::effective_withdraw_limit(img, rec),
+        26 => views::get_token_account_balance(img, rec),
+        27 => views::is_token_approved(img, rec),
+        28 => views::is_token_compliant(img, rec),
+        _ => outcome::refuse(32),
+    }
+}
+
+fn refusal(number: u8) -> Answer
+    ensures { λ r. ⌜ (r .number ≡ number) × (biased (r .value) ≡ bias) × (r .events ≡ 0) ⌝ }
+{
+    Answer {
+        number,
+        value: amount::zero(),
+        events: 0,
+    }
+}
+
+// The sixteen bytes of a value.
+fn write_value(value: &mut [u8; 16], v: Amount)
+    ensures { λ _. ⌜ now (value .exit) ≡ amountBytes (biased v) ⌝ }
+{
+    let mut bytes = [0u8; 16];
+    amount::write_amount(&mut bytes, 0, v);
+    *value = bytes;
+}
+
+// A view on good bytes: the event buffer is blank.
+fn run_view(image: &[u8], rec: &[u8], events: &mut [u8]) -> Answer
+    requires { ⌜ Good (now image) × (callNumber (now rec) (now events) ≡ 0) × (isView (operationOf (now rec)) ≡ true) × (length (now rec) ≡ 448) × (length (now events) ≡ 896) ⌝ }
+    ensures { λ r. ⌜ Answers (op (now (image .entry)) (now (rec .entry)) (now (events .entry)) .answer) r (now (events .exit)) ⌝ }
+{
+    events::clear_events(events);
+    let a = look(image, rec);
+    let n = a.number;
+    if n != 0 {
+        return refusal(n);
+    }
+    a
+}
+
+// Any other operation on good bytes, on a copy of the image.
+fn try_operation(copy: &mut [u8], rec: &[u8], events: &mut [u8]) -> Answer
+    requires { ⌜ Good (now copy) × (callNumber (now rec) (now events) ≡ 0) × (isView (operationOf (now rec)) ≡ false) × (length (now rec) ≡ 448) × (length (now events) ≡ 896) ⌝ }
+    ensures { λ r. ⌜ Tries (op (now (copy .entry)) (now (rec .entry)) (now (events .entry))) r (now (copy .exit)) (now (events .exit)) ⌝ }
+{
+    events::clear_events(events);
+    let a = operate(copy, rec, events);
+    let n = a.number;
+    if n != 0 {
+        events::clear_events(events);
+        return refusal(n);
+    }
+    a
+}
+
+// What an accepted operation left goes to the image, and in an open journal its changed cells are entered: 34 where there is no room.
+fn keep(image: &mut [u8], journal: &mut [u8], copy: &[u8]) -> u8
+    requires { ⌜ (length (now image) ≡ imageLength) × (length (now copy) ≡ imageLength) × (goodJournal cells (now journal) ≡ true) ⌝ }
+    ensures { λ r. ⌜ Keeps (now (image .entry)) (now (copy .entry)) (now (journal .entry)) r (now (image .exit)) (now (journal .exit)) ⌝ }
+{
+    if journal::is_open(journal) {
+        if !journal::enter(image, copy, journal, 2302) {
+            return 34;
+        }
+        fields::copy_bytes(copy, image);
+        return 0;
+    }
+    fields::copy_bytes(copy, image);
+    0
+}
+
+fn run_operation(image: &mut [u8], journal: &mut [u8], rec: &[u8], events: &mut [u8]) -> Answer
+    requires { ⌜ Good (now image) × (goodJournal cells (now journal) ≡ true) × (callNumber (now rec) (now events) ≡ 0) × (isView (operationOf (now rec)) ≡ false) × (length (now rec) ≡ 448) × (length (now events) ≡ 896) ⌝ }
+    ensures { λ r. ⌜ Replies (operated cells false (vault (now (image .entry)) (now (journal .entry))) (op (now (image .entry)) (now (rec .entry)) (now (events .entry)))) r (now (events .exit)) (now (image .exit)) (now (journal .exit)) ⌝ }
+{
+    let mut copy = [0u8; 36832];
+    fields::copy_bytes(image, &mut copy);
+    let a = try_operation(&mut copy, rec, events);
+    let n = a.number;
+    if n != 0 {
+        return a;
+    }
+    let k = keep(image, journal, &copy);
+    if k != 0 {
+        events::clear_events(events);
+        return refusal(k);
+    }
+    a
+}
+
+fn answer_call(image: &mut [u8], journal: &mut [u8], rec: &[u8], events: &mut [u8]) -> Answer
+    ensures { λ r. ⌜ Replies (vaultStep (vault (now (image .entry)) (now (journal .entry))) (Call.operation (now (rec .entry)) (now (events .entry)))) r (now (events .exit)) (now (image .exit)) (now (journal .exit)) ⌝ }
+{
+    if !image::good_image(image) {
+        return refusal(30);
+    }
+    if !journal::good_journal(journal, 2302) {
+        return refusal(31);
+    }
+    let k1 = record::form_check(rec);
+    if k1 != 0 {
+        return refusal(k1);
+    }
+    let k2 = events::buffer_check(events);
+    if k2 != 0 {
+        return refusal(k2);
+    }
+    if record::is_view(record::operation(rec)) {
+        return run_view(image, rec, events);
+    }
+    run_operation(image, journal, rec, events)
+}
+
+// A call: its number; value and event count are written for every answer.
+pub fn call(
+    image: &mut [u8],
+    journal: &mut [u8],
+    record: &[u8],
+    events: &mut [u8],
+    value: &mut [u8; 16],
+    event_count: &mut u32,
+) -> u32
+    ensures { λ r. ⌜ CallIs (vaultStep (vault (now (image .entry)) (now (journal .entry))) (Call.operation (now («record» .entry)) (now (events .entry)))) r (now (value .exit)) (now («event_count» .exit)) (now (events .exit)) (now (image .exit)) (now (journal .exit)) ⌝ }
+{
+    let a = answer_call(image, journal, record, events);
+    let v = a.value;
+    write_value(value, v);
+    *event_count = a.events as u32;
+    a.number as u32
+}
+
+// A call without a journal: as with a closed one of its own.
+pub fn call_without_journal(
+    image: &mut [u8],
+    record: &[u8],
+    events: &mut [u8],
+    value: &mut [u8; 16],
+    event_count: &mut u32,
+) -> u32
+    ensures { λ r. ⌜ CallAlone (vaultStep (vault (now (image .entry)) closedJournal) (Call.operation (now («record» .entry)) (now (events .entry)))) r (now (value .exit)) (now («event_count» .exit)) (now (events .exit)) (now (image .exit)) ⌝ }
+{
+    let mut journal = [0u8; 48];
+    call(image, &mut journal, record, events, value, event_count)
+}
+
+pub fn begin(image: &mut [u8], journal: &mut [u8]) -> u32
+    ensures { λ r. ⌜ JournalIs (vaultStep (vault (now (image .entry)) (now (journal .entry))) Call.begin) r (now (image .exit)) (now (journal .exit)) ⌝ }
+{
+    if !image::good_image(image) {
+        return 30;
+    }
+    if !journal::good_journal(journal, 2302) {
+        return 31;
+    }
+    journal::begin(journal) as u32
+}
+
+pub fn commit(image: &mut [u8], journal: &mut [u8]) -> u32
+    ensures { λ r. ⌜ JournalIs (vaultStep (vault (now (image .entry)) (now (journal .entry))) Call.commit) r (now (image .exit)) (now (journal .exit)) ⌝ }
+{
+    if !image::good_image(image) {
+        return 30;
+    }
+    if !journal::good_journal(journal, 2302) {
+        return 31;
+    }
+    journal::commit(journal) as u32
+}
+
+pub fn rollback(image: &mut [u8], journal: &mut [u8]) -> u32
+    ensures { λ r. ⌜ JournalIs (vaultStep (vault (now (image .entry)) (now (journal .entry))) Call.rollback) r (now (image .exit)) (now (journal .exit)) ⌝ }
+{
+    if !image::good_image(image) {
+        return 30;
+    }
+    if !journal::good_journal(journal, 2302) {
+        return 31;
+    }
+    journal::rollback(image, journal, 2302) as u32
+}
+
+pub fn undo(image: &mut [u8], journal: &mut [u8]) -> u32
+    ensures { λ r. ⌜ JournalIs (vaultStep (vault (now (image .entry)) (now (journal .entry))) Call.undo) r (now (image .exit)) (now (journal .exit)) ⌝ }
+{
+    if !image::good_image(image) {
+        return 30;
+    }
+    if !journal::good_journal(journal, 2302) {
+        return 31;
+    }
+    journal::undo(image, journal, 2302) as u32
+}
+
+// Demand 3 of this vault, over the step that the contracts above cite.
+pub fn demand_three() -> u32
+    ensures { λ r. ⌜ Demand3 ⌝ }
+{
+    3
+}
