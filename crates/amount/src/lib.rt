@@ -128,13 +128,15 @@ pub fn less(a: Amount, b: Amount) -> bool
 {
     let h = biased_high(a);
     let k = biased_high(b);
+    let l = a.lo;
+    let m = b.lo;
     if h < k {
         return true;
     }
     if k < h {
         return false;
     }
-    a.lo < b.lo
+    l < m
 }
 
 pub fn read_amount(s: &[u8], at: usize) -> Amount

@@ -38,8 +38,8 @@ returns-2 c =
 returns-3 : tie.Need-returns-3
 unfolding biased
 returns-3 c =
-    let a = c .before .before .before .before .before .before .args .a in
-    let b = c .before .before .before .before .before .before .args .b in
+    let a = c .before .before .before .before .args .a in
+    let b = c .before .before .before .before .args .b in
     let p : biasedHigh (a .hi) ≡ biasedHigh (b .hi) = omega arith in
     ltb-same (a .lo) (b .lo) (biased a) (biased b) (same-high-lt (2 ^ 64) _ _ _ _ p) (same-high-le (2 ^ 64) _ _ _ _ (sym p))
 
