@@ -1,0 +1,116 @@
+// The line that is printed for an answer. Text is written from the end of a buffer towards its start: each function puts its bytes before index `at`, and returns where they begin.
+use amount::Amount;
+ghost use mathlib.Core.Path.{_≡_};
+ghost use mathlib.Core.List.{_∷_, _++_};
+ghost use Prim.Native.Nat.{_+_, _*_, _^_, _<_, _≤_};
+ghost use lib.Dec.{ltb};
+ghost use lib.ListN.{length, drop};
+ghost use Rattle.amount.specs.Value.{value};
+ghost use Rattle.answer_line.specs.Decimal.{decimal, signed, line};
+
+const HALF: u64 = 9223372036854775808;
+
+// A tenth of a number of 128 bits, and the digit that is left.
+struct Quotient {
+    hi: u64,
+    lo: u64,
+    digit: u8,
+}
+
+fn divide_by_ten(hi: u64, lo: u64) -> Quotient
+    ensures { λ r. ⌜ (10 * (r .hi * 2 ^ 64 + r .lo) + r .digit ≡ hi * 2 ^ 64 + lo) × (r .digit < 10) ⌝ }
+{
+    let x = (hi % 10) * 4294967296 + lo / 4294967296;
+    let y = (x % 10) * 4294967296 + lo % 4294967296;
+    Quotient {
+        hi: hi / 10,
+        lo: (x / 10) * 4294967296 + y / 10,
+        digit: (y % 10) as u8,
+    }
+}
+
+fn is_positive(hi: u64, lo: u64) -> bool
+    ensures { λ r. ⌜ r ≡ ltb 0 (hi * 2 ^ 64 + lo) ⌝ }
+{
+    if 0 < hi {
+        return true;
+    }
+    0 < lo
+}
+
+// A number of 128 bits has at most 39 digits.
+fn write_decimal(out: &mut [u8], at: usize, hi: u64, lo: u64) -> usize
+    requires { ⌜ (39 ≤ at) × (at ≤ length (now out)) ⌝ }
+    ensures { λ r. ⌜ (drop r (now (out .exit)) ≡ decimal (hi * 2 ^ 64 + lo) ++ drop at (now (out .entry))) × (r ≤ at) × (at ≤ r + 39) ⌝ }
+{
+    let mut i = at;
+    let mut h = hi;
+    let mut l = lo;
+    loop {
+        let t = divide_by_ten(h, l);
+        i -= 1;
+        out[i] = 48 + t.digit;
+        h = t.hi;
+        l = t.lo;
+        if !is_positive(h, l) {
+            return i;
+        }
+    }
+}
+
+fn write_text(out: &mut [u8], at: usize, text: &[u8]) -> usize
+    requires { ⌜ (length (now text) ≤ at) × (at ≤ length (now out)) ⌝ }
+    ensures { λ r. ⌜ (drop r (now (out .exit)) ≡ now (text .entry) ++ drop at (now (out .entry))) × (r + length (now (text .entry)) ≡ at) ⌝ }
+{
+    let mut i = text.len();
+    let mut p = at;
+    while i > 0 {
+        i -= 1;
+        p -= 1;
+        out[p] = text[i];
+    }
+    p
+}
+
+fn write_negative(out: &mut [u8], at: usize, hi: u64, lo: u64) -> usize
+    requires { ⌜ (40 ≤ at) × (at ≤ length (now out)) ⌝ }
+    ensures { λ r. ⌜ (drop r (now (out .exit)) ≡ 45 ∷ (decimal (hi * 2 ^ 64 + lo) ++ drop at (now (out .entry)))) × (r ≤ at) × (at ≤ r + 40) ⌝ }
+{
+    let d = write_decimal(out, at, hi, lo);
+    let s = d - 1;
+    out[s] = 45;
+    s
+}
+
+fn write_signed(out: &mut [u8], at: usize, v: Amount) -> usize
+    requires { ⌜ (40 ≤ at) × (at ≤ length (now out)) ⌝ }
+    ensures { λ r. ⌜ (drop r (now (out .exit)) ≡ signed (value v) ++ drop at (now (out .entry))) × (r ≤ at) × (at ≤ r + 40) ⌝ }
+{
+    let h = amount::biased_high(v);
+    let lo = v.lo;
+    if HALF <= h {
+        return write_decimal(out, at, h - HALF, lo);
+    }
+    if lo == 0 {
+        return write_negative(out, at, HALF - h, 0);
+    }
+    write_negative(
+        out,
+        at,
+        9223372036854775807 - h,
+        18446744073709551615 - lo + 1,
+    )
+}
+
+// The line stands in `out` from the index that is returned to the end.
+pub fn write_line(out: &mut [u8; 160], number: u32, v: Amount, events: u32) -> usize
+    ensures { λ r. ⌜ (drop r (now (out .exit)) ≡ line number (value v) events) × (r ≤ 160) ⌝ }
+{
+    let a = write_text(out, 160, b"\n");
+    let b = write_decimal(out, a, 0, events as u64);
+    let c = write_text(out, b, b" events=");
+    let d = write_signed(out, c, v);
+    let e = write_text(out, d, b" value=");
+    let f = write_decimal(out, e, 0, number as u64);
+    write_text(out, f, b"answer=")
+}

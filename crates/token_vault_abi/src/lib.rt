@@ -1,0 +1,67 @@
+// The six calls of the token vault for C and Rust: a slice is passed as a pointer and a length, the value and the event count each as a pointer.
+ghost use mathlib.Core.Path.{_≡_};
+ghost use Rattle.journal.specs.Calls.{Call};
+ghost use Rattle.journal.specs.Step.{vault};
+ghost use Rattle.token_vault.specs.Vault.{vaultStep};
+ghost use Rattle.token_vault.specs.Public.{CallIs, CallAlone, closedJournal, JournalIs};
+
+// A call: its number; value and event count are written for every answer.
+#[no_mangle]
+pub extern "C" fn token_vault_call(
+    image: &mut [u8],
+    journal: &mut [u8],
+    record: &[u8],
+    events: &mut [u8],
+    value: &mut [u8; 16],
+    event_count: &mut u32,
+) -> u32
+    ensures { λ r. ⌜ CallIs (vaultStep (vault (now (image .entry)) (now (journal .entry))) (Call.operation (now («record» .entry)) (now (events .entry)))) r (now (value .exit)) (now («event_count» .exit)) (now (events .exit)) (now (image .exit)) (now (journal .exit)) ⌝ }
+{
+    token_vault::call(image, journal, record, events, value, event_count)
+}
+
+// A call without a journal: as with a closed one of its own.
+#[no_mangle]
+pub extern "C" fn token_vault_call_without_journal(
+    image: &mut [u8],
+    record: &[u8],
+    events: &mut [u8],
+    value: &mut [u8; 16],
+    event_count: &mut u32,
+) -> u32
+    ensures { λ r. ⌜ CallAlone (vaultStep (vault (now (image .entry)) closedJournal) (Call.operation (now («record» .entry)) (now (events .entry)))) r (now (value .exit)) (now («event_count» .exit)) (now (events .exit)) (now (image .exit)) ⌝ }
+{
+    token_vault::call_without_journal(image, record, events, value, event_count)
+}
+
+// Opens a transaction.
+#[no_mangle]
+pub extern "C" fn token_vault_begin(image: &mut [u8], journal: &mut [u8]) -> u32
+    ensures { λ r. ⌜ JournalIs (vaultStep (vault (now (image .entry)) (now (journal .entry))) Call.begin) r (now (image .exit)) (now (journal .exit)) ⌝ }
+{
+    token_vault::begin(image, journal)
+}
+
+// Keeps what the transaction did, and closes it.
+#[no_mangle]
+pub extern "C" fn token_vault_commit(image: &mut [u8], journal: &mut [u8]) -> u32
+    ensures { λ r. ⌜ JournalIs (vaultStep (vault (now (image .entry)) (now (journal .entry))) Call.commit) r (now (image .exit)) (now (journal .exit)) ⌝ }
+{
+    token_vault::commit(image, journal)
+}
+
+// Undoes all that the transaction did, and closes it.
+#[no_mangle]
+pub extern "C" fn token_vault_rollback(image: &mut [u8], journal: &mut [u8]) -> u32
+    ensures { λ r. ⌜ JournalIs (vaultStep (vault (now (image .entry)) (now (journal .entry))) Call.rollback) r (now (image .exit)) (now (journal .exit)) ⌝ }
+{
+    token_vault::rollback(image, journal)
+}
+
+// Undoes the last call of the transaction.
+#[no_mangle]
+pub extern "C" fn token_vault_undo(image: &mut [u8], journal: &mut [u8]) -> u32
+    ensures { λ r. ⌜ JournalIs (vaultStep (vault (now (image .entry)) (now (journal .entry))) Call.undo) r (now (image .exit)) (now (journal .exit)) ⌝ }
+{
+    token_vault::undo(image, journal)
+}

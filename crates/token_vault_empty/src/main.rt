@@ -1,0 +1,4 @@
+// The program on no input at all.
+fn main() {
+    vault_program::main_loop();
+}

@@ -1,0 +1,2 @@
+-- What the proof of `answer_record` uses.
+pub mod Printed
