@@ -31,7 +31,7 @@ pub record Prints (s : Step) (text image : List ℕ) : Type 0 where
   pub printed : text ≡ answerLine (s .answer)
   pub carried : image ≡ s .state .image
 
--- a value below 2 ^ 127, as every operation's is, is printed as it is
+-- a value below 2 ^ 127 is printed as it is
 pub signedAt-value : (v : ℕ) → v < bias → signedAt (amountBytes (bias + v)) ≡ pos v
 unfolding signedAt
 signedAt-value v h = ap (λ (n : ℕ). subℕ n bias) (ap (λ (l : List ℕ). amountAt l 0) (sym (append-nil (amountBytes (bias + v)))) ∙ amountAt-amountBytes (bias + v) [] (omega arith)) ∙ over v bias
