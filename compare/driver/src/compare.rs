@@ -1,0 +1,121 @@
+//! One call at the vault and at the Rust side, and what differs.
+use crate::ffi;
+use crate::mistake::Mistake;
+use model::moves;
+use model::vault::{Answer, Call, Done, Vault};
+
+/// The outcome of an operation: of the Rust contract for 1 to 28, of the model for 29 and 30.
+pub fn operate(image: &[u8], record: &[u8]) -> Done {
+    if record[0] < 29 {
+        let done = reference::operation(image, record);
+        let after = done.image.unwrap_or_default();
+        return Done { number: done.number, value: done.value, events: done.events, image: after };
+    }
+    let mut after = image.to_vec();
+    let number = if record[0] == 29 { moves::outside_move(&mut after, record) } else { moves::freeze(&mut after, record) };
+    Done { number, value: 0, events: Vec::new(), image: after }
+}
+
+/// The vault, and the Rust side that should always hold the same. The contract's caller sees one trap for 22 and 23; the stand-in
+/// host knows which it was, so that the two are compared as different numbers.
+pub struct Pair {
+    pub vault: Vault,
+    pub rust: Vault,
+    pub with_journal: bool,
+    /// Calls the vault between fences.
+    pub fenced: bool,
+    pub mistake: Option<Mistake>,
+}
+
+pub struct Difference {
+    pub what: String,
+    pub vault_answer: Answer,
+    pub rust_answer: Answer,
+    pub vault: Vault,
+    pub rust: Vault,
+}
+
+impl Pair {
+    pub fn new(image: Vec<u8>, journal: Option<Vec<u8>>, mistake: Option<Mistake>) -> Pair {
+        let with_journal = journal.is_some();
+        let start = Vault { image, journal: journal.unwrap_or(vec![0; 48]) };
+        Pair { vault: start.clone(), rust: start, with_journal, fenced: false, mistake }
+    }
+
+    /// Makes the call at both; the answer where they agree.
+    pub fn call(&mut self, call: &Call) -> Result<Answer, Difference> {
+        let (vault_answer, whole) = if self.fenced {
+            ffi::call_fenced(&mut self.vault, call, self.with_journal)
+        } else {
+            (ffi::call(&mut self.vault, call, self.with_journal), true)
+        };
+        let before = self.mistake.map(|_| self.rust.clone());
+        let mut rust_answer = self.rust.call(call, &mut operate);
+        if let (Some(mistake), Some(before)) = (self.mistake, before) {
+            mistake.make(&before, call, &mut rust_answer, &mut self.rust);
+        }
+        let what = if !whole {
+            "bytes beside the lists"
+        } else if vault_answer.number != rust_answer.number {
+            "number"
+        } else if vault_answer.value != rust_answer.value {
+            "value"
+        } else if vault_answer.count != rust_answer.count {
+            "event count"
+        } else if vault_answer.events != rust_answer.events {
+            "event bytes"
+        } else if self.vault.image != self.rust.image {
+            "image bytes"
+        } else if self.vault.journal != self.rust.journal {
+            "journal bytes"
+        } else {
+            return Ok(vault_answer);
+        };
+        Err(Difference { what: what.to_string(), vault_answer, rust_answer, vault: self.vault.clone(), rust: self.rust.clone() })
+    }
+}
+
+/// A smaller start and a smaller record with the same difference: zero wherever zero keeps it.
+pub fn shrink(before: &Vault, call: &Call, with_journal: bool, what: &str, mistake: Option<Mistake>) -> (Vault, Call) {
+    let differs = |start: &Vault, call: &Call| {
+        let mut pair = Pair::new(start.image.clone(), Some(start.journal.clone()), mistake);
+        pair.with_journal = with_journal;
+        pair.call(call).err().is_some_and(|d| d.what == what)
+    };
+    let mut start = before.clone();
+    let mut call = copy(call);
+    if !differs(&start, &call) {
+        return (start, call);
+    }
+    for size in [1024, 16, 1] {
+        for at in (0..start.image.len()).step_by(size) {
+            let mut tried = start.clone();
+            let end = (at + size).min(tried.image.len());
+            tried.image[at..end].fill(0);
+            if tried.image != start.image && differs(&tried, &call) {
+                start = tried;
+            }
+        }
+    }
+    let Call::Operation { record, events } = &mut call else {
+        return (start, call);
+    };
+    for at in 1..record.len() {
+        let mut tried = record.clone();
+        tried[at] = 0;
+        if tried != *record && differs(&start, &Call::Operation { record: tried.clone(), events: events.clone() }) {
+            *record = tried;
+        }
+    }
+    (start, call)
+}
+
+pub fn copy(call: &Call) -> Call {
+    match call {
+        Call::Operation { record, events } => Call::Operation { record: record.clone(), events: events.clone() },
+        Call::Begin => Call::Begin,
+        Call::Commit => Call::Commit,
+        Call::Rollback => Call::Rollback,
+        Call::Undo => Call::Undo,
+    }
+}

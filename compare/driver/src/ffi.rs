@@ -1,0 +1,133 @@
+//! The vault's six functions, as C sees them, and a call of any kind through them.
+use model::vault::{Answer, Call, Vault};
+
+extern "C" {
+    fn token_vault_call(
+        image: *mut u8,
+        image_length: usize,
+        journal: *mut u8,
+        journal_length: usize,
+        record: *const u8,
+        record_length: usize,
+        events: *mut u8,
+        events_length: usize,
+        value: *mut u8,
+        event_count: *mut u32,
+    ) -> u32;
+    fn token_vault_call_without_journal(
+        image: *mut u8,
+        image_length: usize,
+        record: *const u8,
+        record_length: usize,
+        events: *mut u8,
+        events_length: usize,
+        value: *mut u8,
+        event_count: *mut u32,
+    ) -> u32;
+    fn token_vault_begin(image: *mut u8, image_length: usize, journal: *mut u8, journal_length: usize) -> u32;
+    fn token_vault_commit(image: *mut u8, image_length: usize, journal: *mut u8, journal_length: usize) -> u32;
+    fn token_vault_rollback(image: *mut u8, image_length: usize, journal: *mut u8, journal_length: usize) -> u32;
+    fn token_vault_undo(image: *mut u8, image_length: usize, journal: *mut u8, journal_length: usize) -> u32;
+}
+
+/// Makes a call at the vault. Without a journal, only operations.
+pub fn call(vault: &mut Vault, call: &Call, with_journal: bool) -> Answer {
+    let journal = with_journal.then_some(&mut vault.journal[..]);
+    match call {
+        Call::Operation { record, events } => {
+            let mut events = events.clone();
+            operation(&mut vault.image, journal, record, &mut events).answer(events)
+        }
+        _ => plain(transaction(&mut vault.image, &mut vault.journal, call)),
+    }
+}
+
+/// The same, with each list between fences of bytes that the vault has no business with; false if one of them,
+/// or the record, was written to.
+pub fn call_fenced(vault: &mut Vault, call: &Call, with_journal: bool) -> (Answer, bool) {
+    let mut image = Fenced::of(&vault.image);
+    let mut journal = Fenced::of(&vault.journal);
+    let (answer, whole) = match call {
+        Call::Operation { record, events } => {
+            let mut buffer = Fenced::of(events);
+            let lent = Fenced::of(record);
+            let given = with_journal.then_some(journal.list());
+            let numbers = operation(image.list(), given, &lent.0[FENCE..lent.0.len() - FENCE], buffer.list());
+            let whole = buffer.whole() && lent.0 == Fenced::of(record).0;
+            (numbers.answer(buffer.list().to_vec()), whole)
+        }
+        _ => (plain(transaction(image.list(), journal.list(), call)), true),
+    };
+    let whole = whole && image.whole() && journal.whole();
+    vault.image.copy_from_slice(image.list());
+    vault.journal.copy_from_slice(journal.list());
+    (answer, whole)
+}
+
+const FENCE: usize = 48;
+
+struct Fenced(Vec<u8>);
+
+impl Fenced {
+    fn of(list: &[u8]) -> Fenced {
+        Fenced([&[0x5a; FENCE], list, &[0xc3; FENCE]].concat())
+    }
+
+    fn list(&mut self) -> &mut [u8] {
+        let end = self.0.len() - FENCE;
+        &mut self.0[FENCE..end]
+    }
+
+    fn whole(&self) -> bool {
+        self.0[..FENCE] == [0x5a; FENCE] && self.0[self.0.len() - FENCE..] == [0xc3; FENCE]
+    }
+}
+
+struct Numbers {
+    number: u32,
+    value: [u8; 16],
+    count: u32,
+}
+
+impl Numbers {
+    fn answer(self, events: Vec<u8>) -> Answer {
+        Answer { number: self.number, value: i128::from_le_bytes(self.value), count: self.count, events }
+    }
+}
+
+fn plain(number: u32) -> Answer {
+    Answer { number, value: 0, count: 0, events: Vec::new() }
+}
+
+fn operation(image: &mut [u8], journal: Option<&mut [u8]>, record: &[u8], events: &mut [u8]) -> Numbers {
+    // Bytes that a call must write over.
+    let mut value = [0xa5; 16];
+    let mut count = 0xa5a5_a5a5;
+    let (i, il) = (image.as_mut_ptr(), image.len());
+    let (r, rl) = (record.as_ptr(), record.len());
+    let (e, el) = (events.as_mut_ptr(), events.len());
+    let v = value.as_mut_ptr();
+    // Each pointer stands with the length of the list that it points into, and no two lists overlap.
+    let number = unsafe {
+        match journal {
+            Some(j) => token_vault_call(i, il, j.as_mut_ptr(), j.len(), r, rl, e, el, v, &mut count),
+            None => token_vault_call_without_journal(i, il, r, rl, e, el, v, &mut count),
+        }
+    };
+    Numbers { number, value, count }
+}
+
+fn transaction(image: &mut [u8], journal: &mut [u8], call: &Call) -> u32 {
+    let (i, il) = (image.as_mut_ptr(), image.len());
+    let (j, jl) = (journal.as_mut_ptr(), journal.len());
+    // As above.
+    unsafe {
+        match call {
+            Call::Begin => token_vault_begin(i, il, j, jl),
+            Call::Commit => token_vault_commit(i, il, j, jl),
+            Call::Rollback => token_vault_rollback(i, il, j, jl),
+            Call::Undo => token_vault_undo(i, il, j, jl),
+            Call::Operation { .. } => unreachable!("an operation is no transaction call"),
+        }
+    }
+}

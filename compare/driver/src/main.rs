@@ -1,0 +1,251 @@
+//! Runs the vault beside the Rust contract and the model, from one seed, and stops at the first difference.
+mod cases;
+mod compare;
+mod ffi;
+mod generate;
+mod mistake;
+mod random;
+mod scenario;
+mod situation;
+mod sweep;
+mod table;
+
+use scenario::{Failure, Run};
+use std::panic::{catch_unwind, resume_unwind, AssertUnwindSafe};
+use std::process::exit;
+use std::sync::atomic::{AtomicBool, AtomicU64, Ordering};
+use std::time::Instant;
+
+struct Options {
+    calls: u64,
+    seed: u64,
+    jobs: u64,
+    scenario: Option<u64>,
+    self_test: bool,
+    partial: bool,
+}
+
+const USAGE: &str = "driver [--calls N] [--seed S] [--jobs J] [--scenario N] [--self-test] [--partial]
+  --calls N     at least so many calls (1000000)
+  --seed S      the run's seed (1)
+  --jobs J      so many threads (1)
+  --scenario N  one scenario of the run alone
+  --self-test   plant mistakes in the Rust side's outcome; each has to be found
+  --partial     a pair of document 01 that was not reached is no failure";
+
+fn options() -> Options {
+    let mut o = Options { calls: 1_000_000, seed: 1, jobs: 1, scenario: None, self_test: false, partial: false };
+    let mut words = std::env::args().skip(1);
+    while let Some(word) = words.next() {
+        let mut number = || match words.next().and_then(|w| w.parse().ok()) {
+            Some(n) => n,
+            None => {
+                eprintln!("{USAGE}");
+                exit(2)
+            }
+        };
+        match word.as_str() {
+            "--calls" => o.calls = number(),
+            "--seed" => o.seed = number(),
+            "--jobs" => o.jobs = number().max(1),
+            "--scenario" => o.scenario = Some(number()),
+            "--self-test" => o.self_test = true,
+            "--partial" => o.partial = true,
+            _ => {
+                eprintln!("{USAGE}");
+                exit(2)
+            }
+        }
+    }
+    o
+}
+
+fn main() {
+    let o = options();
+    if o.self_test {
+        self_test(o.seed, o.calls);
+        return;
+    }
+    let mut run = Run::new(o.seed, None);
+    if let Some(n) = o.scenario {
+        if let Err(failure) = run.scenario(n) {
+            report(o.seed, &failure);
+            exit(1);
+        }
+        println!("scenario {n}: {} calls, no difference", run.calls);
+        return;
+    }
+    cases::run();
+    let start = Instant::now();
+    match sweep::run(o.seed) {
+        Ok(calls) => println!("{calls} calls on changed bytes and lengths, {:.1} s", start.elapsed().as_secs_f64()),
+        Err(difference) => {
+            println!("DIFFERENCE, seed {}: {difference}", o.seed);
+            exit(1);
+        }
+    }
+    let start = Instant::now();
+    let (run, scenarios, failure) = all_scenarios(&o, start);
+    if let Some(failure) = failure {
+        report(o.seed, &failure);
+        exit(1);
+    }
+    let seconds = start.elapsed().as_secs_f64();
+    run.table.print();
+    run.situations.print();
+    println!(
+        "seed {}: {} calls in {scenarios} scenarios ({} lists, {} kept calls at a second vault), {:.0} calls a second, 0 differences",
+        o.seed,
+        run.calls,
+        run.lists,
+        run.kept,
+        run.calls as f64 / seconds
+    );
+    let unexpected = run.table.unexpected();
+    if !unexpected.is_empty() {
+        println!("not in document 01: {}", unexpected.join(", "));
+        exit(1);
+    }
+    let missing = [run.table.missing(), run.situations.missing()].concat();
+    if !missing.is_empty() && !o.partial {
+        println!("not reached: {}", missing.join(", "));
+        exit(1);
+    }
+}
+
+/// Scenarios until there are calls enough, or a difference: the one of the lowest scenario that was found.
+fn all_scenarios(o: &Options, start: Instant) -> (Run, u64, Option<Box<Failure>>) {
+    const STEP: u64 = 250_000;
+    let (next, calls, found) = (AtomicU64::new(0), AtomicU64::new(0), AtomicBool::new(false));
+    let worker = || {
+        let mut run = Run::new(o.seed, None);
+        while calls.load(Ordering::SeqCst) < o.calls && !found.load(Ordering::SeqCst) {
+            let before = run.calls;
+            let scenario = next.fetch_add(1, Ordering::SeqCst);
+            let ended = catch_unwind(AssertUnwindSafe(|| run.scenario(scenario)));
+            let ended = ended.unwrap_or_else(|panic| {
+                println!("PANIC: seed {}, scenario {scenario}", o.seed);
+                resume_unwind(panic)
+            });
+            if let Err(failure) = ended {
+                found.store(true, Ordering::SeqCst);
+                return (run, Some(failure));
+            }
+            let made = run.calls - before;
+            let all = calls.fetch_add(made, Ordering::SeqCst) + made;
+            if all / STEP != (all - made) / STEP {
+                println!("{all} calls, {:.1} s", start.elapsed().as_secs_f64());
+            }
+        }
+        (run, None)
+    };
+    let mut whole = Run::new(o.seed, None);
+    let mut failures = Vec::new();
+    std::thread::scope(|scope| {
+        let workers: Vec<_> = (0..o.jobs).map(|_| scope.spawn(&worker)).collect();
+        for w in workers {
+            let (run, failure) = w.join().expect("a thread that ends");
+            whole.join(&run);
+            failures.extend(failure);
+        }
+    });
+    failures.sort_by_key(|f| f.scenario);
+    (whole, next.load(Ordering::SeqCst), failures.into_iter().next())
+}
+
+/// Each planted mistake has to be found, and the run without one has to pass.
+fn self_test(seed: u64, calls: u64) {
+    let mut missed = 0;
+    for planted in mistake::ALL {
+        let mut run = Run::new(seed, Some(planted));
+        let mut scenario = 0;
+        let found = loop {
+            if run.calls >= calls {
+                break None;
+            }
+            if let Err(failure) = run.scenario(scenario) {
+                break Some(failure);
+            }
+            scenario += 1;
+        };
+        match found {
+            Some(f) => {
+                println!("{planted:?}: found after {} calls, by {}", run.calls, f.difference.what);
+                if !f.before.image.is_empty() {
+                    let (start, _) = compare::shrink(&f.before, &f.call, f.with_journal, &f.difference.what, Some(planted));
+                    let left = start.image.iter().filter(|b| **b != 0).count();
+                    println!("    an image with {left} bytes other than 0 is enough");
+                }
+            }
+            None => {
+                println!("{planted:?}: NOT FOUND in {} calls", run.calls);
+                missed += 1;
+            }
+        }
+    }
+    println!("{} planted mistakes found, {missed} missed", mistake::ALL.len() - missed);
+    if missed > 0 {
+        exit(1);
+    }
+}
+
+fn hex(bytes: &[u8]) -> String {
+    bytes.iter().map(|b| format!("{b:02x}")).collect()
+}
+
+/// The cells that are not zero, or in which two lists differ.
+fn cells(bytes: &[u8], other: Option<&[u8]>) {
+    for (i, cell) in bytes.chunks(16).enumerate() {
+        let beside = other.map(|o| &o[(16 * i).min(o.len())..(16 * i + 16).min(o.len())]);
+        match beside {
+            Some(o) if o != cell => println!("  {:5}  vault {}  rust {}", 16 * i, hex(cell), hex(o)),
+            None if cell.iter().any(|b| *b != 0) => println!("  {:5}  {}", 16 * i, hex(cell)),
+            _ => {}
+        }
+    }
+}
+
+fn report(seed: u64, f: &Failure) {
+    let d = &f.difference;
+    println!("DIFFERENCE in {}: seed {seed}, scenario {}, call {}", d.what, f.scenario, f.call_number);
+    println!("again with: driver --seed {seed} --scenario {}", f.scenario);
+    print_call(&f.call);
+    println!("with a journal: {}", f.with_journal);
+    if f.before.image.is_empty() {
+        println!("below, \"rust\" is the second vault, which got the kept list");
+    }
+    for (name, a) in [("vault", &d.vault_answer), ("rust ", &d.rust_answer)] {
+        println!("{name} number {} value {} count {}", a.number, a.value, a.count);
+    }
+    println!("event bytes that differ:");
+    cells(&d.vault_answer.events, Some(&d.rust_answer.events));
+    println!("image bytes that differ:");
+    cells(&d.vault.image, Some(&d.rust.image));
+    println!("journal bytes that differ:");
+    cells(&d.vault.journal, Some(&d.rust.journal));
+    println!("image before:");
+    cells(&f.before.image, None);
+    println!("journal before ({} bytes):", f.before.journal.len());
+    cells(&f.before.journal, None);
+    if f.before.image.is_empty() {
+        return;
+    }
+    let (start, call) = compare::shrink(&f.before, &f.call, f.with_journal, &d.what, None);
+    println!("A smaller input with a difference in {}:", d.what);
+    print_call(&call);
+    println!("image before:");
+    cells(&start.image, None);
+}
+
+fn print_call(call: &model::vault::Call) {
+    match call {
+        model::vault::Call::Operation { record, events } => {
+            println!("operation {:?}, record of {} bytes:", record.first(), record.len());
+            for (i, row) in record.chunks(32).enumerate() {
+                println!("  {:4}  {}", 32 * i, hex(row));
+            }
+            println!("event buffer of {} bytes", events.len());
+        }
+        other => println!("{}", table::Table::name(other)),
+    }
+}

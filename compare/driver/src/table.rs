@@ -1,0 +1,159 @@
+//! How often each operation gave each number, and which pairs of document 01 have to be reached.
+use model::vault::Call;
+
+pub const NUMBERS: usize = 38;
+const ROWS: usize = 35;
+
+/// Rows 0 to 30 are operations (0: a record that names none), then begin, commit, rollback, undo.
+pub struct Table([[u64; NUMBERS]; ROWS]);
+
+const NAMES: [&str; ROWS] = [
+    "no operation",
+    "initialize",
+    "deposit",
+    "deposit_with_fee",
+    "batch_deposit",
+    "withdraw",
+    "withdraw_batch",
+    "deposit_token",
+    "withdraw_token",
+    "deposit_with_failure_report",
+    "set_operator_withdraw_limit",
+    "set_limit",
+    "set_token_max_limit",
+    "set_operator",
+    "revoke_operator",
+    "propose_owner",
+    "accept_owner",
+    "set_owner_proposal_ttl",
+    "pause",
+    "unpause",
+    "approve_token",
+    "initiate_emergency_migration",
+    "execute_emergency_migration",
+    "cancel_emergency_migration",
+    "balance",
+    "effective_withdraw_limit",
+    "get_token_account_balance",
+    "is_token_approved",
+    "is_token_compliant",
+    "outside move",
+    "freeze or thaw",
+    "begin",
+    "commit",
+    "rollback",
+    "undo",
+];
+
+/// Document 01, "Refusals, operation by operation": each operation's own numbers.
+///
+/// Not listed, since no good image and record can give them:
+/// - 5 `withdraw`: 7 (one amount above 0 is its own sum), though the paper names both withdrawals together.
+/// - 3 `deposit_with_fee`: no other 4 or 5 of its inner `deposit`, since the net lies between 1 and the gross.
+fn own(row: usize) -> &'static [usize] {
+    match row {
+        1 => &[22, 4, 9, 23, 2],
+        2 | 3 => &[8, 1, 3, 22, 4, 5, 10, 7, 6, 11, 23, 12],
+        4 => &[8, 4, 1, 5, 22, 10, 7, 6, 11, 23, 12],
+        5 => &[8, 1, 3, 22, 4, 6, 23, 13],
+        6 => &[8, 1, 3, 22, 4, 7, 6, 23, 13],
+        7 => &[8, 1, 3, 22, 4, 5, 10, 23, 11, 7, 6, 12],
+        8 => &[8, 1, 3, 22, 4, 6, 23, 13],
+        9 => &[8, 1, 3, 22, 4, 5, 10, 7, 6, 11, 12],
+        10 | 12 => &[8, 1, 3, 22, 4],
+        11 => &[8, 1, 4, 6, 3, 22],
+        13 | 14 => &[1, 3, 22],
+        15 => &[1, 3, 22, 14],
+        16 => &[15, 16, 22, 7, 17],
+        17 => &[1, 3, 22, 4],
+        18 => &[1, 3, 22, 18],
+        19 => &[1, 3, 22, 19],
+        20 => &[1, 3, 22, 9, 23],
+        21 => &[1, 3, 22, 14, 7],
+        22 => &[1, 3, 22, 20, 21, 23],
+        23 => &[1, 3, 22, 20],
+        24 => &[1],
+        25 => &[8, 1, 3, 6],
+        28 => &[23],
+        29 => &[14, 4, 23],
+        30 => &[14],
+        31 => &[36],
+        32 | 33 => &[35],
+        34 => &[35, 37],
+        _ => &[],
+    }
+}
+
+/// The numbers that a row has to reach: done, its own, and those of every call. Views never answer 34.
+fn wanted(row: usize) -> Vec<usize> {
+    let mut numbers = own(row).to_vec();
+    match row {
+        0 => return vec![30, 31, 32],
+        1..=30 => numbers.extend([0, 30, 31, 32, 33]),
+        _ => numbers.extend([0, 30, 31]),
+    }
+    if (1..=23).contains(&row) || row == 29 || row == 30 {
+        numbers.push(34);
+    }
+    numbers
+}
+
+impl Table {
+    pub fn new() -> Table {
+        Table([[0; NUMBERS]; ROWS])
+    }
+
+    pub fn row(call: &Call) -> usize {
+        match call {
+            Call::Operation { record, .. } => match record.first() {
+                Some(o) if (1..=30).contains(o) => *o as usize,
+                _ => 0,
+            },
+            Call::Begin => 31,
+            Call::Commit => 32,
+            Call::Rollback => 33,
+            Call::Undo => 34,
+        }
+    }
+
+    pub fn name(call: &Call) -> &'static str {
+        NAMES[Table::row(call)]
+    }
+
+    pub fn count(&mut self, call: &Call, number: u32) {
+        self.0[Table::row(call)][number as usize] += 1;
+    }
+
+    pub fn join(&mut self, other: &Table) {
+        for (row, counts) in other.0.iter().enumerate() {
+            for (number, count) in counts.iter().enumerate() {
+                self.0[row][number] += count;
+            }
+        }
+    }
+
+    pub fn print(&self) {
+        for (row, counts) in self.0.iter().enumerate() {
+            let reached: Vec<String> = (0..NUMBERS).filter(|n| counts[*n] > 0).map(|n| format!("{n}:{}", counts[n])).collect();
+            let label = if (1..=30).contains(&row) { row.to_string() } else { String::new() };
+            println!("{label:>2} {:<29} {}", NAMES[row], reached.join(" "));
+        }
+    }
+
+    /// The pairs of document 01 that were not reached.
+    pub fn missing(&self) -> Vec<String> {
+        self.pairs(|row, number, count| count == 0 && wanted(row).contains(&number))
+    }
+
+    /// The pairs that were reached though document 01 does not have them.
+    pub fn unexpected(&self) -> Vec<String> {
+        self.pairs(|row, number, count| count > 0 && !wanted(row).contains(&number))
+    }
+
+    fn pairs(&self, is: impl Fn(usize, usize, u64) -> bool) -> Vec<String> {
+        let all = (0..ROWS).flat_map(|row| (0..NUMBERS).map(move |number| (row, number)));
+        all.filter(|(row, number)| is(*row, *number, self.0[*row][*number]))
+            .map(|(row, number)| format!("{} {number}", NAMES[row]))
+            .collect()
+    }
+}

@@ -1,0 +1,30 @@
+//! The contract's errors and their numbers in document 01. errors.rs itself cannot be had.
+#[derive(Clone, Copy, Debug, PartialEq, Eq)]
+pub enum Error {
+    NotInitialized = 1,
+    AlreadyInitialized = 2,
+    NotAuthorized = 3,
+    InvalidAmount = 4,
+    DepositExceedsMax = 5,
+    LimitExceeded = 6,
+    ArithmeticOverflow = 7,
+    ContractPaused = 8,
+    InvalidToken = 9,
+    TokenNotApproved = 10,
+    VaultBalanceChanged = 11,
+    DepositTransferFailed = 12,
+    WithdrawTransferFailed = 13,
+    InvalidParam = 14,
+    NoPendingOwner = 15,
+    NotPendingOwner = 16,
+    PendingOwnerExpired = 17,
+    AlreadyPaused = 18,
+    NotPaused = 19,
+    NoMigrationProposed = 20,
+    TimelockNotExpired = 21,
+    // Not in document 01; none can arise in an operation that is compared.
+    ReentrancyDetected = 100,
+    InvalidWasmHash = 101,
+    InvalidStreamBatch = 102,
+    StreamCallFailed = 103,
+}

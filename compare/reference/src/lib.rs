@@ -1,0 +1,8 @@
+//! The contract's lib.rs, storage.rs and events.rs, compiled unchanged, and called with document 01's records and images.
+pub mod errors;
+mod image;
+mod invoke;
+
+include!(concat!(env!("OUT_DIR"), "/modules.rs"));
+
+pub use invoke::{operation, Done};

@@ -1,0 +1,18 @@
+#!/bin/sh
+# Compares the vault with the Rust contract: planted mistakes first, then a run from a fixed seed. Other options go to the driver.
+# The contract's Rust is looked for beside the repository, or in VAULT_RUST_SRC; the vault in target/staticlib, or in VAULT_LIBRARY.
+set -eu
+root=$(cd "$(dirname "$0")/.." && pwd)
+cd "$root"
+if [ -z "${VAULT_LIBRARY:-}" ] && [ ! -f target/staticlib/libtoken_vault_abi.a ]; then
+    rt staticlib token_vault_abi
+fi
+CARGO_TARGET_DIR=${CARGO_TARGET_DIR:-$root/target/compare}
+export CARGO_TARGET_DIR
+cargo build --release --offline --quiet --manifest-path compare/Cargo.toml
+driver=$CARGO_TARGET_DIR/release/driver
+"$driver" --self-test --calls 400000
+if [ $# -eq 0 ]; then
+    set -- --calls 2000000 --seed 1 --jobs 2
+fi
+exec "$driver" "$@"
