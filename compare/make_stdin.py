@@ -121,6 +121,46 @@ run = [
     (record(2, caller=2, amount=10), (11, 0, 0)),
     (record(2, caller=2, amount=10, sequence=8), (0, 0, 1)),
     (record(24), (0, 10, 0)),
+    # a token deposit of the default token, and payouts of it; a batch credits nobody
+    (record(7, caller=2, token=48, amount=5, sequence=8), (0, 0, 1)),
+    (record(8, caller=2, token=48, other=4, amount=16, sequence=8), (6, 0, 0)),
+    (record(8, caller=2, token=48, other=4, amount=5, sequence=8), (0, 0, 1)),
+    (record(4, signers=[2], items=[(2, 5), (3, 6)], sequence=8), (22, 0, 0)),
+    (record(26, caller=3, token=48), (0, 0, 0)),
+    (record(26, caller=3, token=64), (32, 0, 0)),
+    (record(27, token=64), (32, 0, 0)),
+    (record(9, caller=9, amount=1, sequence=8), (3, 0, 0)),
+    # limits: below the holding of 10 is 6, whoever asks; only the owner raises
+    (record(10, caller=2, amount=0), (4, 0, 0)),
+    (record(11, caller=9, amount=9), (6, 0, 0)),
+    (record(11, caller=3, amount=2000), (3, 0, 0)),
+    (record(11, caller=2, amount=2000), (0, 0, 1)),
+    (record(12, caller=2, token=49, amount=0), (4, 0, 0)),
+    # outside the vault
+    (record(29, caller=1, other=4, token=48, amount=1), (14, 0, 0)),
+    (record(30, token=63, flag=1), (14, 0, 0)),
+    # settings refused
+    (record(13, caller=3, other=5), (3, 0, 0)),
+    (record(19, caller=2), (19, 0, 0)),
+    (record(20, caller=2, token=0, flag=1), (9, 0, 0)),
+    # a migration cancelled
+    (record(21, caller=2, other=0, time=1000), (14, 0, 0)),
+    (record(23, caller=2), (20, 0, 0)),
+    (record(21, caller=2, other=4, time=1000), (0, 0, 1)),
+    (record(23, caller=2), (0, 0, 1)),
+    # handover to 5: the time to live (where the amount stands) that is stored when 5 accepts counts
+    (record(16, caller=5), (15, 0, 0)),
+    (record(15, caller=2, other=0), (14, 0, 0)),
+    (record(15, caller=2, other=5, time=1000), (0, 0, 1)),
+    (record(17, caller=2, amount=0), (4, 0, 0)),
+    (record(17, caller=2, amount=60), (0, 0, 1)),
+    (record(16, caller=4, time=1059), (16, 0, 0)),
+    (record(16, caller=5, time=1060), (17, 0, 0)),
+    (record(16, caller=5, time=1059), (0, 0, 1)),
+    # the new owner revokes the operator
+    (record(14, caller=2), (3, 0, 0)),
+    (record(14, caller=5), (0, 0, 1)),
+    (record(5, caller=3, other=4, amount=1), (3, 0, 0)),
 ]
 write("token_vault_main", start + b"".join(r for r, _ in run), [a for _, a in run])
 
