@@ -4,7 +4,7 @@ use mathlib.Core.List.{List}
 use Prim.Native.Nat.{ℕ, _+_, _-_}
 use native.Mathlib.Omega.{arith}
 use Rattle.deposits.specs.Deposit.{fundingNumber, expectedNumber, expectedHolding}
-use Rattle.deposits.specs.Extra.{checks-refuse, checks-pass}
+use Rattle.outcome.specs.Checked.{checks-refuse, checks-pass}
 use Rattle.outcome.specs.Outcome.{Does, accepted}
 use Rattle.events.specs.Kinds.{depositedEvent}
 use Rattle.events.specs.Event.{EventFields, putEvent, eventBuffer}

@@ -2,7 +2,7 @@
 use mathlib.Core.List.{List, [], _∷_}
 use Prim.Native.Nat.{ℕ, zero, suc, _+_, _-_}
 use Rattle.deposits.specs.Deposit.{fundingNumber, expectedNumber, expectedHolding}
-use Rattle.deposits.specs.Extra.{checked}
+use Rattle.outcome.specs.Checked.{checked}
 use Rattle.outcome.specs.Outcome.{Outcome}
 use Rattle.checks.specs.Checks.{pausedNumber, signedNumber, initialisedNumber, depositAmountNumber}
 use Rattle.events.specs.Kinds.{depositedEvent}

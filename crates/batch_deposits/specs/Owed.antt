@@ -5,8 +5,8 @@ use Prim.Native.Nat.{ℕ, _<_}
 use Rattle.book.specs.Book.{Book, addsItems, enterBook}
 use Rattle.book.specs.Owed.{Owed}
 use Rattle.outcome.specs.Outcome.{Formed}
+use Rattle.outcome.specs.FormedLaws.{item-in}
 use Rattle.record.specs.Record.{operationOf, itemCountOf, sequenceOf, signersOf, itemAddress}
-use Rattle.record.specs.Laws.{item-below}
 use Rattle.batch_deposits.specs.Moved.{batch-good, batch-booked}
 use Rattle.batch_deposits.specs.Batch.{batchDeposit}
 use Rattle.record.specs.Form.{member, readsItems}
@@ -17,7 +17,7 @@ enter-4 b r e o = rw o
 
 senders-in : {r : List ℕ} → Formed 4 r → (j : ℕ) → j < itemCountOf r → itemAddress r j < 64
 unfolding readsItems member
-senders-in {r} f j h = item-below r 4 (f .formed) (f .operation) refl j h
+senders-in f = item-in f refl
 
 pub batch-deposit-owed : Owed 4 batchDeposit
 batch-deposit-owed =

@@ -9,10 +9,12 @@ use native.Mathlib.Omega.{arith}
 use borrow.Author.Tests.{not-true}
 use lib.Dec.{eqb}
 use lib.ListN.{length, getD, set, length-set}
-use Rattle.image.specs.Layout.{slot, tollAt, holdingAt, defaultToken, destination, hasMigration}
+use Rattle.image.specs.Layout.{slot, tokenAt, tollAt, holdingAt, defaultToken, destination, toll, holding, hasMigration}
 use Rattle.amount.specs.Frame.{same-amountAt}
+use Rattle.amount.specs.Laws.{by-lt}
 use Rattle.amount.specs.Biased.{bias}
-use Rattle.fields.specs.Frame.{Only, Agree, over, part}
+use Rattle.fields.specs.Frame.{Only, Agree, only-put, under, over, part, same-le}
+use Rattle.fields.specs.Bytes.{put}
 use Rattle.fields.specs.Logic.{_and_, and-l, and-r}
 use Rattle.record.specs.Record.{operationOf}
 use Rattle.book.specs.Moves.{Moves}
@@ -68,6 +70,40 @@ module _ (b : Book) {t new : ℕ} {l m : List ℕ} (fits : BookIs b l) (v : Move
   pub taken : (n : ℕ) → new - bias ≡ vaultHolding l (slot t) - n → BookIs (takes t n b) m
   unfolding takes
   taken n e = changed (λ h. h - n) e
+
+-- a transfer that leaves the vault's holding
+pub still-booked : (b : Book) {t : ℕ} {l m : List ℕ} → BookIs b l → Moves t (holding l (slot t) 1) l m → BookIs b m
+still-booked b {t} {l} {m} fits v =
+    record {
+      sixteen = fits .sixteen;
+      numbered = λ u h. fits .numbered u h ∙ ap (λ (k : ℕ). k - bias) (sym (at u h (ℕ-discrete u (slot t))));
+      tolled = λ u h. fits .tolled u h ∙ ap (λ (k : ℕ). k - bias) (sym (v .tolls u h));
+      default = fits .default ∙ sym (v .token);
+      migrating = λ i. fits .migrating (rw (v .flagged) at i) ∙ sym (v .to);
+    }
+  where
+    at : (u : ℕ) → u < 16 → Dec (u ≡ slot t) → holding m u 1 ≡ holding l u 1
+    at u h (yes p) = rw p (v .this)
+    at u h (no p) = v .other u h p
+
+-- a token's kind is no part of the book
+pub kind-booked : (b : Book) (l : List ℕ) (t k : ℕ) → t < 16 → BookIs b l → BookIs b (put 8 l (tokenAt t) k)
+kind-booked b l t k h fits =
+    let o = only-put 8 l (tokenAt t) k in
+    record {
+      sixteen = fits .sixteen;
+      numbered = λ u q. fits .numbered u q ∙ ap (λ (k : ℕ). k - bias) (sym (same-amountAt (holdingAt u 1) (over (holdingAt u 1) 16 (tokenAt t) 8 o (omega arith))));
+      tolled = λ u q. fits .tolled u q ∙ ap (λ (k : ℕ). k - bias) (sym (tolls u));
+      default = fits .default ∙ sym (same-le 1 3 (under 3 1 (tokenAt t) 8 o (omega arith)));
+      migrating = λ i. fits .migrating (rw (same-le 2 0 (under 0 2 (tokenAt t) 8 o (omega arith))) at i) ∙ sym (same-le 1 7 (under 7 1 (tokenAt t) 8 o (omega arith)));
+    }
+  where
+    tolls : (u : ℕ) → toll (put 8 l (tokenAt t) k) u ≡ toll l u
+    tolls u =
+        let o = only-put 8 l (tokenAt t) k in
+        by-lt u t (toll (put 8 l (tokenAt t) k) u ≡ toll l u)
+        (λ q. same-amountAt (tollAt u) (under (tollAt u) 16 (tokenAt t) 8 o (omega arith)))
+        (λ q. same-amountAt (tollAt u) (over (tollAt u) 16 (tokenAt t) 8 o (omega arith)))
 
 -- ---- an operation that moves none
 module _ (b : Book) {l m : List ℕ} (fits : BookIs b l) (a : Agree 3680 16768 l m) where

@@ -28,8 +28,8 @@ abbrev pub migrationBit : ℕ
 migrationBit = 5
 
 -- bit a of a set of addresses, 1 or 0
-unfoldable pub member : ℕ → ℕ → ℕ
-member set a = bit set a
+unfoldable pub inSet : ℕ → ℕ → ℕ
+inSet set a = bit set a
 
 -- 8: paused
 abbrev pub pausedRules : List ℕ → List Rule
@@ -40,7 +40,7 @@ pausedNumber l = verdict (pausedRules l)
 
 -- 22: the address is not in the signer set
 abbrev pub signedRules : ℕ → ℕ → List Rule
-signedRules signers a = when (ne (member signers a) 1) 22 ∷ []
+signedRules signers a = when (ne (inSet signers a) 1) 22 ∷ []
 
 unfoldable pub signedNumber : ℕ → ℕ → ℕ
 signedNumber signers a = verdict (signedRules signers a)
@@ -100,7 +100,7 @@ depositAmountNumber n = verdict (depositAmountRules n)
 
 -- 10: token not approved
 abbrev pub approvedRules : List ℕ → ℕ → List Rule
-approvedRules l t = when (ne (member (approvedSet l) t) 1) 10 ∷ []
+approvedRules l t = when (ne (inSet (approvedSet l) t) 1) 10 ∷ []
 
 unfoldable pub approvedNumber : List ℕ → ℕ → ℕ
 approvedNumber l t = verdict (approvedRules l t)

@@ -5,15 +5,15 @@ use Prim.Native.Nat.{ℕ}
 use lib.ListN.{set}
 use Rattle.image.specs.Layout.{bit, flags, owner, initialised}
 use Rattle.fields.specs.Rules.{AllFail, free, unlinked}
-use Rattle.checks.specs.Checks.{flag, initialisedBit, member, pausedRules, pausedNumber, signedRules, signedNumber, initialisedRules, initialisedNumber, ownerRules, notOwnerNumber, ownerNumber, insiderRules, notInsiderNumber, sharedNumber, amountRules, amountNumber, depositAmountRules, depositAmountNumber, approvedRules, approvedNumber, limitRules, limitNumber, fundsRules, fundsNumber}
+use Rattle.checks.specs.Checks.{flag, initialisedBit, inSet, pausedRules, pausedNumber, signedRules, signedNumber, initialisedRules, initialisedNumber, ownerRules, notOwnerNumber, ownerNumber, insiderRules, notInsiderNumber, sharedNumber, amountRules, amountNumber, depositAmountRules, depositAmountNumber, approvedRules, approvedNumber, limitRules, limitNumber, fundsRules, fundsNumber}
 
 pub flag-is : (k : ℕ) (l : List ℕ) → flag k l ≡ bit (flags l) k
 unfolding flag
 flag-is k l = refl
 
-pub member-is : (set a : ℕ) → member set a ≡ bit set a
-unfolding member
-member-is set a = refl
+pub inSet-is : (set a : ℕ) → inSet set a ≡ bit set a
+unfolding inSet
+inSet-is set a = refl
 
 module _ {k : ℕ} where
   pub paused-free : (l : List ℕ) → k ≡ pausedNumber l → k ≡ 0 → AllFail (pausedRules l)

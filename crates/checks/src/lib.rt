@@ -5,7 +5,7 @@ ghost use Prim.Native.Nat.{ℕ, _+_, _<_, _≤_};
 ghost use lib.ListN.{length};
 ghost use Rattle.amount.specs.Biased.{bias, biased};
 ghost use Rattle.image.specs.Layout.{imageLength};
-ghost use Rattle.checks.specs.Checks.{maxVaultDeposit, flag, member, insider, pausedNumber, signedNumber, initialisedNumber, notOwnerNumber, ownerNumber, notInsiderNumber, sharedNumber, amountNumber, depositAmountNumber, approvedNumber, limitNumber, capNumber, fundsNumber};
+ghost use Rattle.checks.specs.Checks.{maxVaultDeposit, flag, inSet, insider, pausedNumber, signedNumber, initialisedNumber, notOwnerNumber, ownerNumber, notInsiderNumber, sharedNumber, amountNumber, depositAmountNumber, approvedNumber, limitNumber, capNumber, fundsNumber};
 
 // Bit k of the flags.
 pub fn flag_of(img: &[u8], k: u16) -> u16
@@ -18,7 +18,7 @@ pub fn flag_of(img: &[u8], k: u16) -> u16
 // Bit a of a set of addresses.
 pub fn has(set: u64, a: u64) -> u64
     requires { ⌜ a < 64 ⌝ }
-    ensures { λ r. ⌜ r ≡ member set a ⌝ }
+    ensures { λ r. ⌜ r ≡ inSet set a ⌝ }
 {
     (set >> a) % 2
 }

@@ -5,11 +5,11 @@ use Prim.Native.Nat.{ℕ, _+_, _≤_, _<_}
 use native.Mathlib.Nat.{add-zero}
 use native.Mathlib.Omega.{arith}
 use borrow.Author.Tests.{eq-eqb, ne-eqb}
-use lib.ListN.{length}
 use Rattle.outcome.specs.Outcome.{Does, refused, accepted}
+use Rattle.outcome.specs.Checked.{checks-refuse, checks-pass}
 use Rattle.events.specs.Kinds.{depositedEvent, tokenDepositedEvent, vaultDepositFailedEvent}
 use Rattle.events.specs.Event.{putEvent, eventBuffer}
-use Rattle.events.specs.Buffer.{length-eventBuffer, appended}
+use Rattle.events.specs.Buffer.{appended}
 use Rattle.fields.specs.Rules.{AllFail}
 use Rattle.token.specs.Token.{transferRules, transferNumber, transferOf, transferred}
 use Rattle.token.specs.Laws.{transfer-failed, good-transfer}
@@ -20,11 +20,7 @@ use Rattle.amount.specs.Biased.{bias, biased}
 use Rattle.deposits.specs.Deposit.{receiveNumber, addCredit, depositImage, depositChecks, depositedOutcome, depositOutcome, grossNumber, netOf, depositWithFeeOutcome}
 use Rattle.deposits.specs.Report.{settledReport, reportOutcome, failureReportOutcome}
 use Rattle.deposits.specs.TokenDeposit.{depositTokenImage, tokenChecks, receiveTokenNumber, depositTokenOutcome}
-use Rattle.deposits.specs.Extra.{checks-refuse, checks-pass}
 use Rattle.outcome.specs.declared.Answer.{Answer}
-
-pub blank-long : {e : List ℕ} → e ≡ eventBuffer [] → length e ≡ 896
-blank-long p = rw p (length-eventBuffer [] (omega arith))
 
 -- the tracked keys after a transfer to the vault
 pub moved-keys : (l : List ℕ) (t from n : ℕ) {y : List ℕ} → Good l → from < 64 → bias ≤ n → AllFail (transferRules l t from 1 n) → y ≡ transferOf l t from 1 n → Keys y

@@ -4,6 +4,7 @@ use mathlib.Core.List.{List, [], _∷_, _++_}
 use Prim.Native.Nat.{ℕ, _+_, _-_}
 use lib.Dec.{ltb}
 use Rattle.outcome.specs.Outcome.{Outcome}
+use Rattle.outcome.specs.Checked.{checked}
 use Rattle.checks.specs.Checks.{pausedNumber, sharedNumber, depositAmountNumber, approvedNumber, limitNumber}
 use Rattle.events.specs.Kinds.{depositedEvent, tokenDepositedEvent}
 use Rattle.record.specs.Record.{callerOf, sequenceOf, signersOf, amountOf, feeOf}
@@ -12,7 +13,6 @@ use Rattle.storage.specs.Setters.{setCredit, recordBalance, snapshotNumber}
 use Rattle.image.specs.Layout.{slot, defaultToken, vaultLimit, holding, credit}
 use Rattle.amount.specs.Biased.{bias}
 use Rattle.fields.specs.Rules.{pick, lt, leq, ne, Rule, when, verdict, chain}
-use Rattle.deposits.specs.Extra.{checked}
 
 -- from 10: token not approved; 7, 6 of the vault limit; 11 the snapshot of this sequence shows another holding
 unfoldable pub fundingNumber : List ℕ → ℕ → ℕ → ℕ → ℕ

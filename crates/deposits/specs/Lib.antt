@@ -1,5 +1,4 @@
 -- Definitions and laws of operations 2, 3, 7 and 9.
-pub mod Extra
 pub mod Deposit
 pub mod Report
 pub mod TokenDeposit

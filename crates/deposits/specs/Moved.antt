@@ -24,7 +24,7 @@ use Rattle.deposits.specs.Deposit.{depositHolding, expectedHolding, rece
 use Rattle.deposits.specs.Report.{settledReport, failedReport, reportOutcome}
 use Rattle.deposits.specs.TokenDeposit.{depositTokenImage}
 use Rattle.deposits.specs.Laws.{Funded, checks-passed, receive-free, received-all, credited-free}
-use Rattle.deposits.specs.Extra.{first-byte}
+use Rattle.events.specs.Buffer.{first-byte}
 use native.Mathlib.Decide.{ℕ-discrete}
 
 -- a credit that is added only if it fits moves nothing of the vault's

@@ -1,6 +1,5 @@
 -- What the deposits owe to demand 3.
 use mathlib.Core.Path.{_≡_, refl, sym, subst}
-use mathlib.Core.Bool.{true}
 use mathlib.Core.List.{List}
 use Prim.Native.Nat.{ℕ, _-_, _<_}
 use native.Mathlib.Omega.{arith}
@@ -8,10 +7,9 @@ use lib.Dec.{eqb}
 use lib.ListN.{getD}
 use Rattle.book.specs.Book.{Book, adds, enterBook, BookIs}
 use Rattle.book.specs.Owed.{Owed}
-use Rattle.outcome.specs.Outcome.{Formed}
+use Rattle.outcome.specs.FormedLaws.{caller-in}
 use Rattle.events.specs.Event.{eventBuffer}
 use Rattle.record.specs.Record.{operationOf, callerOf, tokenOf, sequenceOf, signersOf, amountOf, feeOf}
-use Rattle.record.specs.Laws.{caller-below}
 use Rattle.storage.specs.Facts.{Good}
 use Rattle.image.specs.Layout.{defaultToken}
 use Rattle.amount.specs.Biased.{bias}
@@ -22,9 +20,6 @@ use Rattle.deposits.specs.Moved.{token-moves, deposit-booked, default-go
 use Rattle.deposits.specs.TokenDeposit.{depositTokenOutcome, depositToken}
 use Rattle.deposits.specs.Laws.{checks-passed, gross-free, token-passed, receive-token-free}
 use Rattle.record.specs.Form.{member, readsCaller}
-
-caller-in : (k : ℕ) {r : List ℕ} → Formed k r → readsCaller k ≡ true → callerOf r < 64
-caller-in k {r} f e = caller-below r k (f .formed) (f .operation) e
 
 enter-2 : (b : Book) (r e : List ℕ) → operationOf r ≡ 2 → enterBook b r e ≡ adds (b .token) (amountOf r - bias) b
 unfolding enterBook
@@ -95,31 +90,31 @@ pub deposit-owed : Owed 2 deposit
 unfolding depositOutcome readsCaller member
 deposit-owed =
     record {
-      good = λ l r g f z. let u = unlinked _ z in default-good l (callerOf r) (signersOf r) (sequenceOf r) (amountOf r) g (caller-in 2 f refl) (u .0) (u .1 .0);
+      good = λ l r g f z. let u = unlinked _ z in default-good l (callerOf r) (signersOf r) (sequenceOf r) (amountOf r) g (caller-in f refl) (u .0) (u .1 .0);
       booked = λ b l r g f z m. let u = unlinked _ z in
-          rw (enter-2 b r _ (f .operation)) (default-booked l (callerOf r) (signersOf r) (sequenceOf r) (amountOf r) g (caller-in 2 f refl) (u .0) (u .1 .0) b m);
+          rw (enter-2 b r _ (f .operation)) (default-booked l (callerOf r) (signersOf r) (sequenceOf r) (amountOf r) g (caller-in f refl) (u .0) (u .1 .0) b m);
     }
 
 pub deposit-with-fee-owed : Owed 3 depositWithFee
 unfolding readsCaller member
 deposit-with-fee-owed =
     record {
-      good = λ l r g f z. fee-good l r g (caller-in 3 f refl) z;
-      booked = λ b l r g f z m. rw (enter-3 b r _ (f .operation)) (fee-booked l r g b m (caller-in 3 f refl) z);
+      good = λ l r g f z. fee-good l r g (caller-in f refl) z;
+      booked = λ b l r g f z m. rw (enter-3 b r _ (f .operation)) (fee-booked l r g b m (caller-in f refl) z);
     }
 
 pub deposit-token-owed : Owed 7 depositToken
 unfolding readsCaller member
 deposit-token-owed =
     record {
-      good = λ l r g f z. token-good l r g (caller-in 7 f refl) z;
-      booked = λ b l r g f z m. rw (enter-7 b r _ (f .operation)) (token-booked l r g b m (caller-in 7 f refl) z);
+      good = λ l r g f z. token-good l r g (caller-in f refl) z;
+      booked = λ b l r g f z m. rw (enter-7 b r _ (f .operation)) (token-booked l r g b m (caller-in f refl) z);
     }
 
 pub deposit-with-failure-report-owed : Owed 9 depositWithFailureReport
 unfolding readsCaller member
 deposit-with-failure-report-owed =
     record {
-      good = λ l r g f z. reported-good l r g (caller-in 9 f refl) z;
-      booked = λ b l r g f z m. rw (enter-9 b r _ (f .operation)) (reported-booked l r g b m (caller-in 9 f refl) z);
+      good = λ l r g f z. reported-good l r g (caller-in f refl) z;
+      booked = λ b l r g f z m. rw (enter-9 b r _ (f .operation)) (reported-booked l r g b m (caller-in f refl) z);
     }

@@ -4,13 +4,13 @@ use mathlib.Core.List.{List, [], _∷_}
 use Prim.Native.Nat.{ℕ}
 use lib.Dec.{eqb}
 use Rattle.outcome.specs.Outcome.{Outcome}
+use Rattle.outcome.specs.Checked.{checked}
 use Rattle.events.specs.Kinds.{vaultDepositFailedEvent}
 use Rattle.record.specs.Record.{callerOf, sequenceOf, signersOf, amountOf}
 use Rattle.token.specs.Token.{transferNumber, transferOf}
 use Rattle.image.specs.Layout.{slot, defaultToken, holding, credit}
 use Rattle.fields.specs.Rules.{pick, chain}
 use Rattle.deposits.specs.Deposit.{overflowNumber, expectedNumber, expectedHolding, depositImage, depositChecks, depositedOutcome}
-use Rattle.deposits.specs.Extra.{checked}
 
 -- m is the image after the transfer, d the holding expected: 12; 7 of the credit
 unfoldable pub creditedNumber : List ℕ → ℕ → ℕ → ℕ → ℕ → ℕ

@@ -3,7 +3,8 @@ use mathlib.Core.List.{List, [], _∷_}
 use Prim.Native.Nat.{ℕ}
 use lib.Dec.{eqb}
 use Rattle.outcome.specs.Outcome.{Outcome}
-use Rattle.checks.specs.Checks.{member, pausedNumber, sharedNumber, depositAmountNumber, approvedNumber, limitNumber}
+use Rattle.outcome.specs.Checked.{checked}
+use Rattle.checks.specs.Checks.{inSet, pausedNumber, sharedNumber, depositAmountNumber, approvedNumber, limitNumber}
 use Rattle.record.specs.Record.{callerOf, tokenOf, sequenceOf, signersOf, amountOf}
 use Rattle.token.specs.Token.{absentNumber, transferNumber, transferOf}
 use Rattle.storage.specs.Setters.{recordBalance, snapshotNumber}
@@ -11,11 +12,10 @@ use Rattle.image.specs.Layout.{slot, cappedSet, cap, holding}
 use Rattle.fields.specs.Rules.{pick, chain}
 use Rattle.deposits.specs.Deposit.{overflowNumber, expectedHolding, addCredit, depositedOutcome}
 use Rattle.deposits.specs.Report.{creditedNumber}
-use Rattle.deposits.specs.Extra.{checked}
 
 -- with a cap on the token: 7, 6, as with the vault limit
 unfoldable pub tokenCapNumber : List ℕ → ℕ → ℕ → ℕ → ℕ
-tokenCapNumber l t h n = pick (eqb (member (cappedSet l) t) 1) (limitNumber h n (cap l t)) 0
+tokenCapNumber l t h n = pick (eqb (inSet (cappedSet l) t) 1) (limitNumber h n (cap l t)) 0
 
 -- 10 token not approved; 23 absent; 11; with a cap 7, 6
 unfoldable pub tokenFundingNumber : List ℕ → ℕ → ℕ → ℕ → ℕ

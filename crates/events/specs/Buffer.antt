@@ -154,6 +154,11 @@ module _ (e : EventFields) where
 pub first-kind : (e : EventFields) (es : List EventFields) → le 1 (eventBuffer (e ∷ es)) 0 ≡ e .kind
 first-kind e es = le-event (e ∷ es) 0 (omega arith) 1 0 (omega arith) ∙ kind-read e
 
+-- the same, of the first byte, as the book reads it
+pub first-byte : (e : EventFields) (es : List EventFields) → getD (eventBuffer (e ∷ es)) 0 0 ≡ e .kind
+unfolding le
+first-byte e es = let k = first-kind e es in omega arith
+
 amountAt-after : (a b : List ℕ) (k : ℕ) → length a ≡ k → amountAt (a ++ b) k ≡ amountAt b 0
 amountAt-after a b k e = amountAt-like (a ++ b) k b 0 (λ i h. rw (← e, zero-add) (getD-append-add a b i 0))
 

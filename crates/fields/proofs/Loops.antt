@@ -7,15 +7,13 @@ use native.Mathlib.Nat.{not-suc-le-zero, le-antisymm}
 use native.Mathlib.Numerals.{add-one}
 use native.Mathlib.Omega.{arith}
 use borrow.Author.Tests.{eq-eqb, ne-eqb, eqb-true, eqb-false}
-use lib.Bits.{bitAnd, bitOr, bitXor, or-add-and, xor-add-and, and-le-l, and-le-r, or-zero-l, xor-self}
+use lib.Bits.{bitAnd, bitOr, bitXor, xor-add-and, and-le-l, and-le-r, or-zero-l, xor-self}
 use lib.Dec.{eqb}
 use lib.ListN.{length, take, getD, set, replicate, drop, drop-of-length-le}
 use lib.Seq.{take-suc, take-length, take-all, take-suc-set, length-take-le}
 use Rattle.fields.specs.Logic.{_and_, and-true, and-assoc}
 use Rattle.fields.specs.Same.{sameBytes}
-
-or-zero : (d x : ℕ) → bitOr d x ≡ 0 → (d ≡ 0) × (x ≡ 0)
-or-zero d x e = omega (arith, or-add-and d x, and-le-l d x, and-le-r d x)
+use Rattle.fields.specs.Zeros.{bitOr-zero}
 
 xor-zero : (x y : ℕ) → bitXor x y ≡ 0 → x ≡ y
 xor-zero x y e = omega (arith, xor-add-and x y, and-le-l x y, and-le-r x y)
@@ -23,8 +21,8 @@ xor-zero x y e = omega (arith, xor-add-and x y, and-le-l x y, and-le-r x y)
 step-go : (d x y : ℕ) (s t : Bool) → eqb d 0 ≡ s → eqb x y ≡ t → eqb (bitOr d (bitXor x y)) 0 ≡ s and t
 unfolding _and_
 step-go d x y true true e f = let p = eqb-true d 0 e in let q = eqb-true x y f in rw (p, q, xor-self)
-step-go d x y true false e f = ne-eqb (bitOr d (bitXor x y)) 0 λ z. eqb-false x y f (xor-zero x y (or-zero d (bitXor x y) z .1))
-step-go d x y false t e f = ne-eqb (bitOr d (bitXor x y)) 0 λ z. eqb-false d 0 e (or-zero d (bitXor x y) z .0)
+step-go d x y true false e f = ne-eqb (bitOr d (bitXor x y)) 0 λ z. eqb-false x y f (xor-zero x y (bitOr-zero d (bitXor x y) z .1))
+step-go d x y false t e f = ne-eqb (bitOr d (bitXor x y)) 0 λ z. eqb-false d 0 e (bitOr-zero d (bitXor x y) z .0)
 
 -- one more byte of each
 sameBytes-snoc : (a b : List ℕ) (x y : ℕ) → length a ≡ length b → sameBytes (a ++ (x ∷ [])) (b ++ (y ∷ [])) ≡ sameBytes a b and eqb x y

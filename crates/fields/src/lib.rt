@@ -1,8 +1,9 @@
-// Numbers at places of a lent byte slice, least significant byte first; and slices copied, compared, cleared and tested for zeros.
+// Numbers at places of a lent byte slice, least significant byte first; slices copied, compared, cleared and tested for zeros; and tests joined.
 ghost use mathlib.Core.Path.{_≡_};
 ghost use Prim.Native.Nat.{_+_, _≤_};
 ghost use lib.ListN.{length, replicate};
 ghost use Rattle.fields.specs.Bytes.{le, put};
+ghost use Rattle.fields.specs.Logic.{_and_, _or_};
 ghost use Rattle.fields.specs.Same.{sameBytes};
 ghost use Rattle.fields.specs.Zeros.{zeros};
 
@@ -112,4 +113,16 @@ pub fn are_zero(s: &[u8], at: usize, n: usize) -> bool
         i += 1;
     }
     d == 0
+}
+
+pub fn both(a: bool, b: bool) -> bool
+    ensures { λ r. ⌜ r ≡ _and_ a b ⌝ }
+{
+    if a { b } else { false }
+}
+
+pub fn either(a: bool, b: bool) -> bool
+    ensures { λ r. ⌜ r ≡ _or_ a b ⌝ }
+{
+    if a { true } else { b }
 }

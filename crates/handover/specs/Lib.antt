@@ -1,4 +1,3 @@
 -- Definitions and laws of the handover of the vault to another owner.
 pub mod Handover
-pub mod Extra
 pub mod Owed

@@ -6,21 +6,22 @@ use native.Mathlib.Omega.{arith}
 use Rattle.book.specs.Book.{Book, BookIs}
 use Rattle.book.specs.Owed.{Owed}
 use Rattle.book.specs.Entries.{head-settled, quietOperation, quiet}
+use Rattle.outcome.specs.FormedLaws.{caller-in, other-in, time-in}
 use Rattle.checks.specs.Checks.{pendingOwnerBit}
 use Rattle.checks.specs.Passed.{flag-is, owner-free}
 use Rattle.record.specs.Form.{member, readsCaller, readsOther}
 use Rattle.record.specs.Record.{callerOf, otherOf, timestampOf, signersOf, timeToLiveOf}
-use Rattle.storage.specs.Heads.{on, off, at-head, good-ttl, good-owner, good-propose, good-no-pending}
+use Rattle.storage.specs.Heads.{on, off, at-head, flags-put, good-ttl, good-owner, good-propose, good-no-pending}
 use Rattle.storage.specs.Facts.{Good}
 use Rattle.storage.specs.Writes.{elsewhere}
 use Rattle.storage.specs.Flags.{Turned}
-use Rattle.image.specs.Layout.{bit, flags, initialised}
+use Rattle.image.specs.Layout.{bit, flags, initialised, hasPending}
+use Rattle.amount.specs.Laws.{by-lt}
 use Rattle.fields.specs.Logic.{_and_}
-use Rattle.fields.specs.Frame.{only-then}
+use Rattle.fields.specs.Frame.{only-then, zero-le}
 use Rattle.fields.specs.Rules.{free, unlinked}
 use Rattle.fields.specs.Bytes.{put}
 use Rattle.handover.specs.Handover.{proposeNumber, proposeOutcome, proposeOwner, pendingRules, pendingNumber, acceptNumber, clearPending, acceptOutcome, acceptOwner, ttlRules, ttlNumber, proposalTtlNumber, proposalTtlOutcome, setOwnerProposalTtl}
-use Rattle.handover.specs.Extra.{caller-in, other-in, time-in, flags-put, pending-begun}
 
 -- ---- the flag of a pending owner turned, and the fields that hang on it
 module _ (l : List ℕ) (g : Good l) (f v a c w : ℕ) (t : Turned (flags l) 4 f v) where
@@ -51,6 +52,13 @@ propose-owner-owed =
     }
 
 -- ---- 16
+-- an owner is pending only in an initialised image
+pending-begun : (l : List ℕ) → Good l → hasPending l ≡ 1 → initialised l ≡ 1
+pending-begun l g e =
+    by-lt (initialised l) 1 (initialised l ≡ 1)
+    (λ h. let z : flags l ≡ 0 = zero-le l 2 0 (λ i p q. g .blank (omega arith) i (omega arith) (omega arith)) in absurd (omega arith))
+    (λ h. omega arith)
+
 accept-passed : (l : List ℕ) (caller signers time : ℕ) → Good l → acceptNumber l caller signers time ≡ 0 → initialised l ≡ 1
 unfolding acceptNumber pendingNumber
 accept-passed l caller signers time g z =

@@ -3,7 +3,7 @@ use mathlib.Core.Path.{_≡_, refl, sym, ap, _∙_}
 use mathlib.Core.Bool.{Bool, true, false, not}
 use mathlib.Core.List.{List, [], _∷_}
 use Prim.Native.Nat.{ℕ, zero, suc, _+_, _-_, _*_, _/_, _%_, _^_, _≤_, _<_}
-use native.Mathlib.Nat.{add-zero, add-suc, add-mul, le-antisymm}
+use native.Mathlib.Nat.{add-zero, add-mul, le-antisymm}
 use native.Mathlib.Numerals.{add-one}
 use native.Mathlib.Omega.{arith}
 use borrow.Author.Tests.{eqb-true, eqb-false, eq-eqb, ne-eqb, lt-ltb, le-ltb, le-leb, lt-leb, ltb-true, leb-true}
@@ -11,8 +11,8 @@ use lib.Arith.{digits-lt}
 use lib.Bits.{bitAnd, bitOr, or-add-and, and-le-l, and-le-r}
 use lib.Dec.{eqb, ltb, leb, lit<}
 use lib.ListN.{length, getD, set, replicate, getD-replicate, drop}
-use lib.Seq.{getD-set-same, getD-set-other, getD-drop, drop-drop}
-use Rattle.fields.specs.Bytes.{le, le-below, le-split}
+use lib.Seq.{getD-set-same, getD-set-other, drop-drop}
+use Rattle.fields.specs.Bytes.{le, le-below, le-drop, le-split}
 use Rattle.amount.specs.Biased.{amountAt, bias, signOf}
 use Rattle.amount.specs.Laws.{by-lt, bias-parts, full-parts, lex-lt, sign-below, sign-zero, sign-above}
 use Rattle.image.specs.Layout.{trackedKey, defaultToken}
@@ -21,11 +21,6 @@ use Rattle.fields.specs.Zeros.{each}
 use Rattle.image.specs.Good.{notNegativeHere, notNegatives, tracked, freshKey, goodAddresses}
 
 -- ---- amounts that are not negative
-le-drop : (w : ℕ) (l : List ℕ) (at b : ℕ) → le w (drop at l) b ≡ le w l (at + b)
-unfolding le
-le-drop zero l at b = refl
-le-drop (suc w) l at b = rw (getD-drop at l b 0, le-drop w l at (suc b), add-suc)
-
 amountAt-drop : (l : List ℕ) (at : ℕ) → amountAt (drop at l) 0 ≡ amountAt l at
 unfolding amountAt
 amountAt-drop l at = rw (le-drop 8 l at (0 + 8), le-drop 8 l at 0, add-zero)

@@ -1,4 +1,6 @@
 // Whether an image is good: one function for each part of the definition.
+use fields::both;
+use fields::either;
 ghost use mathlib.Core.Path.{_≡_};
 ghost use mathlib.Core.Bool.{not};
 ghost use Prim.Native.Nat.{_+_, _-_, _*_, _/_, _%_, _^_, _≤_, _<_};
@@ -7,7 +9,7 @@ ghost use lib.ListN.{length, getD};
 ghost use Rattle.fields.specs.Bytes.{le};
 ghost use Rattle.amount.specs.Biased.{amountAt, bias, signOf};
 ghost use Rattle.image.specs.Layout.{imageLength, bit};
-ghost use Rattle.fields.specs.Logic.{_and_, _or_, all};
+ghost use Rattle.fields.specs.Logic.{all};
 ghost use Rattle.image.specs.Good.{
   notNegatives,
   aboveWhere,
@@ -26,18 +28,6 @@ ghost use Rattle.image.specs.Good.{
   goodToken,
   goodImage,
 };
-
-fn both(a: bool, b: bool) -> bool
-    ensures { λ r. ⌜ r ≡ _and_ a b ⌝ }
-{
-    if a { b } else { false }
-}
-
-fn either(a: bool, b: bool) -> bool
-    ensures { λ r. ⌜ r ≡ _or_ a b ⌝ }
-{
-    if a { true } else { b }
-}
 
 fn below(a: u64, b: u64) -> bool
     ensures { λ r. ⌜ r ≡ ltb a b ⌝ }

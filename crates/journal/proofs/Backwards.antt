@@ -8,12 +8,11 @@ use lib.Dec.{eqb}
 use lib.ListN.{length, getD, take, drop, take-append-drop}
 use lib.Seq.{take-suc, drop-cons, drop-drop, drop-length}
 use borrow.Author.Tests.{eq-eqb}
-use Rattle.fields.specs.Bytes.{le}
+use Rattle.fields.specs.Bytes.{le, le-drop}
 use Rattle.journal.specs.Journal.{Entry, readEntry, readEntries, contentsOf, ordered, goodJournal, putBack, restore, ofCall, exceptCall}
 use Rattle.journal.specs.Parts.{Earlier}
 use Rattle.journal.proofs.Written.{order-out, order-in, length-read, good-order, good-room}
 use Rattle.journal.proofs.Cells.{ofCall-append, exceptCall-append, older-none}
-use Rattle.journal.proofs.Scanned.{le-drop}
 
 abbrev pub none : Entry
 none = record { cell = 0; call = 0; old = [] }
@@ -77,10 +76,10 @@ module _ (j : List ℕ) (k : ℕ) (h : 0 < k) (l : k ≤ length (contentsOf j .e
       entry-at (le 2 j 4) (drop 24 j) (k - 1) (omega arith) ∙ ap readEntry (drop-drop (24 * (k - 1)) 24 j ∙ ap (λ i. drop i j) e)
 
   pub read-cell : le 2 j (24 * k) ≡ getD (contentsOf j .entries) (k - 1) none .cell
-  read-cell = let z : 24 * k + 0 ≡ 24 * k = omega arith in sym (ap (λ (e : Entry). e .cell) read-entry ∙ le-drop j (24 * k) 0 ∙ ap (le 2 j) z)
+  read-cell = let z : 24 * k + 0 ≡ 24 * k = omega arith in sym (ap (λ (e : Entry). e .cell) read-entry ∙ le-drop 2 j (24 * k) 0 ∙ ap (le 2 j) z)
 
   pub read-call : le 2 j (24 * k + 2) ≡ getD (contentsOf j .entries) (k - 1) none .call
-  read-call = sym (ap (λ (e : Entry). e .call) read-entry ∙ le-drop j (24 * k) 2)
+  read-call = sym (ap (λ (e : Entry). e .call) read-entry ∙ le-drop 2 j (24 * k) 2)
 
   pub read-old : take 16 (drop (24 * k + 8) j) ≡ getD (contentsOf j .entries) (k - 1) none .old
   read-old = sym (ap (λ (e : Entry). e .old) read-entry ∙ ap (take 16) (drop-drop 8 (24 * k) j))

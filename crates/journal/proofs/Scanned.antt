@@ -5,13 +5,13 @@ use mathlib.Core.List.{List, [], _∷_, _++_, append-assoc}
 use Prim.Native.Nat.{ℕ, zero, suc, _+_, _*_, _-_, _/_, _%_, _≤_, _<_}
 use native.Mathlib.Omega.{arith}
 use native.Mathlib.Numerals.{add-one}
-use native.Mathlib.Nat.{add-suc, zero-add}
+use native.Mathlib.Nat.{zero-add}
 use lib.Dec.{eqb, leb}
 use lib.ListN.{length, getD, take, drop, replicate, length-take, length-drop, take-append-drop, length-replicate, getD-replicate}
 use lib.Seq.{drop-cons, drop-drop, getD-drop, getD-take, drop-at, ext-getD, length-take-le}
 use borrow.Author.Tests.{eqb-true, eqb-false, leb-true, eq-eqb}
 use Rattle.fields.specs.Logic.{_and_, and-l, and-r, and-i, true-and, false-and}
-use Rattle.fields.specs.Bytes.{le}
+use Rattle.fields.specs.Bytes.{le, le-drop}
 use Rattle.fields.specs.Rules.{pick}
 use Rattle.fields.specs.Same.{same-refl}
 use Rattle.fields.specs.Zeros.{zeros, each, zeroHere, zeros-at, zeros-from}
@@ -189,9 +189,6 @@ pub scan-is : (cells : ℕ) (j : List ℕ) → ((i : ℕ) → getD j i 0 < 256) 
 scan-is cells j v = both-ways _ _ (scan-good cells j v) (good-scan cells j)
 
 -- ---- one turn of the loop over the entries
-pub le-drop : (b : List ℕ) (n k : ℕ) → le 2 (drop n b) k ≡ le 2 b (n + k)
-le-drop b n k = le-two (drop n b) k ∙ rw (getD-drop n b k, getD-drop n b (suc k), add-suc) (sym (le-two b (n + k)))
-
 zeros-drop : (b : List ℕ) (n at m : ℕ) → zeros (drop n b) at m ≡ zeros b (n + at) m
 unfolding zeros
 zeros-drop b n at m = rw (drop-drop at n b)
@@ -206,7 +203,7 @@ module _ (j : List ℕ) (cells calls count i last next cell call : ℕ) (passed 
       let a : 24 * suc i ≡ 24 * (i + 1) = omega arith in
       let z : 24 * (i + 1) + 0 ≡ 24 * (i + 1) = omega arith in
       let m : 24 * (i + 1) + 24 ≡ 24 * suc (i + 1) = omega arith in
-      rw (n, a, le-drop j (24 * (i + 1)) 0, le-drop j (24 * (i + 1)) 2, zeros-drop j (24 * (i + 1)) 4 4, drop-drop 24 (24 * (i + 1)) j, z, m, ← ce, ← ca, ← pa, add-one cell)
+      rw (n, a, le-drop 2 j (24 * (i + 1)) 0, le-drop 2 j (24 * (i + 1)) 2, zeros-drop j (24 * (i + 1)) 4 4, drop-drop 24 (24 * (i + 1)) j, z, m, ← ce, ← ca, ← pa, add-one cell)
 
   pub turn-stops : passed ≡ false → false ≡ scanEntries cells calls (count - i) last next (drop (24 * suc i) j)
   turn-stops e = sym (turn ∙ rw e (false-and _))

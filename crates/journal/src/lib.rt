@@ -1,26 +1,15 @@
 // The undo journal of an image: whether it is good, the calls that open and close it, and an operation's changed cells entered and taken back.
+use fields::both;
+use fields::either;
 ghost use mathlib.Core.Path.{_≡_};
 ghost use mathlib.Core.List.{List, [], _++_};
 ghost use Prim.Native.Nat.{ℕ, suc, _+_, _-_, _*_, _<_, _≤_};
 ghost use lib.ListN.{length, take, drop, replicate};
 ghost use Rattle.fields.specs.Bytes.{le, put};
-ghost use Rattle.fields.specs.Logic.{_and_, _or_};
 ghost use Rattle.journal.specs.Journal.{contentsOf, goodJournal, fits, entryBytes, restore};
 ghost use Rattle.journal.specs.Scan.{inOrder, scanHead, scanEntries};
 ghost use Rattle.journal.specs.Step.{vault, reply, begun, committed, rolledBack, undone};
 ghost use Rattle.journal.specs.Parts.{GoodJournal, GoodOver, GoodOpen, Enters, Earlier, Counted};
-
-fn both(a: bool, b: bool) -> bool
-    ensures { λ r. ⌜ r ≡ _and_ a b ⌝ }
-{
-    if a { b } else { false }
-}
-
-fn either(a: bool, b: bool) -> bool
-    ensures { λ r. ⌜ r ≡ _or_ a b ⌝ }
-{
-    if a { true } else { b }
-}
 
 fn wide(x: u16) -> usize
     ensures { λ r. ⌜ (r ≡ x) × (r < 65536) ⌝ }

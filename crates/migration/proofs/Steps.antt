@@ -7,12 +7,12 @@ use Rattle.outcome.specs.declared.Answer.{Answer}
 use Rattle.outcome.specs.Outcome.{Does, accepted}
 use Rattle.events.specs.Event.{EventFields, eventBuffer}
 use Rattle.events.specs.Kinds.{emergencyMigrationExecutedEvent}
-use Rattle.token.specs.Token.{transferNumber, transferred}
+use Rattle.token.specs.Token.{vaultBalance, transferNumber, transferred}
 use Rattle.token.specs.Laws.{transfer-done}
 use Rattle.image.specs.Layout.{defaultToken, destination}
 use Rattle.amount.specs.Biased.{bias, biased}
 use Rattle.fields.specs.Rules.{link-at}
-use Rattle.migration.specs.Migration.{executeChecks, vaultBalance, migrateNumber, migrateHolding, executeNumber, clearMigration, executeOutcome}
+use Rattle.migration.specs.Migration.{executeChecks, migrateNumber, migrateHolding, executeNumber, clearMigration, executeOutcome}
 use Rattle.migration.specs.Laws.{held-none, held-some}
 
 -- n is the vault's holding as it was read, t the default token, to the destination

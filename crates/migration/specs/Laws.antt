@@ -9,14 +9,14 @@ use lib.Dec.{ltb}
 use Rattle.book.specs.Moves.{Moves, moves-none, transfer-moves}
 use Rattle.checks.specs.Checks.{migrationBit}
 use Rattle.checks.specs.Passed.{flag-is, owner-free}
-use Rattle.token.specs.Token.{transferNumber, transferOf}
+use Rattle.token.specs.Token.{vaultBalance, transferNumber, transferOf}
 use Rattle.token.specs.Laws.{transfer-free}
 use Rattle.storage.specs.Facts.{Good}
 use Rattle.storage.specs.Writes.{default-range, holding-range}
 use Rattle.image.specs.Layout.{slot, defaultToken, destination, holding, initialised, hasMigration}
 use Rattle.amount.specs.Biased.{bias}
 use Rattle.fields.specs.Rules.{free, unlinked}
-use Rattle.migration.specs.Migration.{timelock, proposalRules, proposalNumber, initiateNumber, noMigrationRules, noMigrationNumber, executeChecks, vaultBalance, migrateNumber, migrateHolding, executeNumber, cancelNumber}
+use Rattle.migration.specs.Migration.{timelock, proposalRules, proposalNumber, initiateNumber, noMigrationRules, noMigrationNumber, executeChecks, migrateNumber, migrateHolding, executeNumber, cancelNumber}
 
 pub initiate-free : (l : List ℕ) (caller signers to time : ℕ) {k : ℕ} → k ≡ initiateNumber l caller signers to time → k ≡ 0 → (initialised l ≡ 1) × (time + timelock < 2 ^ 64)
 unfolding initiateNumber proposalNumber

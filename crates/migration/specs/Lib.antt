@@ -1,6 +1,5 @@
 -- Definitions and laws of the emergency migration.
 pub mod Migration
 pub mod Laws
-pub mod Extra
 pub mod Moved
 pub mod Owed

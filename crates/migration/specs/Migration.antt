@@ -7,8 +7,8 @@ use Rattle.outcome.specs.Outcome.{Outcome, announces}
 use Rattle.checks.specs.Checks.{flag, migrationBit, ownerNumber}
 use Rattle.events.specs.Kinds.{emergencyMigrationInitiatedEvent, emergencyMigrationExecutedEvent, emergencyMigrationCancelledEvent}
 use Rattle.record.specs.Record.{callerOf, otherOf, timestampOf, signersOf}
-use Rattle.token.specs.Token.{transferNumber, transferOf}
-use Rattle.image.specs.Layout.{slot, flags, defaultToken, destination, executableAt, holding, withBit, withoutBit}
+use Rattle.token.specs.Token.{vaultBalance, transferNumber, transferOf}
+use Rattle.image.specs.Layout.{flags, defaultToken, destination, executableAt, withBit, withoutBit}
 use Rattle.amount.specs.Biased.{bias}
 use Rattle.fields.specs.Rules.{pick, lt, leq, eq, ne, Rule, when, verdict, chain}
 use Rattle.fields.specs.Bytes.{put}
@@ -52,11 +52,7 @@ earlyNumber l time = verdict (earlyRules l time)
 unfoldable pub executeChecks : List ℕ → ℕ → ℕ → ℕ → ℕ
 executeChecks l caller signers time = chain (ownerNumber l caller signers ∷ noMigrationNumber l ∷ earlyNumber l time ∷ [])
 
--- the vault's holding of the default token
-abbrev pub vaultBalance : List ℕ → ℕ
-vaultBalance l = holding l (slot (defaultToken l)) 1
-
--- the whole of it goes to the destination; a holding of 0 makes no transfer, and the snapshot stays
+-- the whole of the vault's balance goes to the destination; a holding of 0 makes no transfer, and the snapshot stays
 unfoldable pub migrateNumber : List ℕ → ℕ
 migrateNumber l = pick (ltb bias (vaultBalance l)) (transferNumber l (defaultToken l) 1 (destination l) (vaultBalance l)) 0
 

@@ -9,9 +9,9 @@ use borrow.Author.Tests.{eq-eqb, ne-eqb}
 use lib.Dec.{eqb}
 use Rattle.book.specs.Book.{Book, BookIs, change, net, migrates, vaultHolding, tollValue}
 use Rattle.book.specs.Entries.{changed, settled}
-use Rattle.token.specs.Token.{transferRules, transferOf, received, arrives}
+use Rattle.token.specs.Token.{vaultBalance, transferRules, transferOf, received, arrives}
 use Rattle.token.specs.Laws.{transfer-free, transfer-to, transfer-from, debited-from}
-use Rattle.storage.specs.Heads.{off, at-head, good-no-migration}
+use Rattle.storage.specs.Heads.{off, at-head, good-no-migration, flags-put}
 use Rattle.storage.specs.Facts.{Good}
 use Rattle.storage.specs.Writes.{elsewhere, default-range}
 use Rattle.image.specs.Layout.{slot, bit, defaultToken, destination, toll, holding, initialised, hasMigration}
@@ -19,9 +19,8 @@ use Rattle.amount.specs.Laws.{by-lt}
 use Rattle.amount.specs.Biased.{bias}
 use Rattle.fields.specs.Frame.{Only, only-then, over}
 use Rattle.fields.specs.Rules.{AllFail, pick}
-use Rattle.migration.specs.Migration.{vaultBalance, migrateNumber, migrateHolding, clearMigration}
+use Rattle.migration.specs.Migration.{migrateNumber, migrateHolding, clearMigration}
 use Rattle.migration.specs.Laws.{held-none, held-some, held-range, migrate-moves}
-use Rattle.migration.specs.Extra.{flags-put}
 
 -- ---- the migration's fields cleared
 module _ (l : List ℕ) (g : Good l) (i : initialised l ≡ 1) where

@@ -7,6 +7,7 @@ use Rattle.book.specs.Book.{Book, BookIs, enterBook, migrates}
 use Rattle.book.specs.Owed.{Owed}
 use Rattle.book.specs.Entries.{unmoved, quietOperation, quiet}
 use Rattle.book.specs.Moves.{still-begun}
+use Rattle.outcome.specs.FormedLaws.{other-in, time-in}
 use Rattle.record.specs.Form.{member, readsOther}
 use Rattle.record.specs.Record.{operationOf, callerOf, otherOf, timestampOf, signersOf}
 use Rattle.storage.specs.Heads.{at-head, good-initiate}
@@ -18,7 +19,6 @@ use Rattle.fields.specs.Bytes.{put, length-put, le-put-same}
 use Rattle.migration.specs.Migration.{timelock, initiateOutcome, initiateEmergencyMigration, migrateHolding, executeOutcome, executeEmergencyMigration, cancelOutcome, cancelEmergencyMigration}
 use Rattle.migration.specs.Laws.{initiate-free, execute-free, cancel-free, migrate-moves, good-migrate}
 use Rattle.migration.specs.Moved.{good-clear, clear-booked, migrate-booked}
-use Rattle.migration.specs.Extra.{other-in, time-in}
 
 -- ---- 21
 enter-21 : (b : Book) (r e : List ℕ) → operationOf r ≡ 21 → enterBook b r e ≡ record { numbers = b .numbers; tolls = b .tolls; token = b .token; destination = otherOf r }

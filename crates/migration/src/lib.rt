@@ -1,17 +1,17 @@
 // Operations 21 to 23: the emergency migration of the vault's holding to a destination (lib.rs).
 use amount::Amount;
-use events::Event;
 use outcome::Answer;
 ghost use mathlib.Core.Path.{_≡_};
-ghost use mathlib.Core.List.{[], _∷_};
+ghost use mathlib.Core.List.{[]};
 ghost use Prim.Native.Nat.{_<_};
 ghost use lib.ListN.{length};
 ghost use Rattle.amount.specs.Biased.{biased};
 ghost use Rattle.image.specs.Layout.{imageLength, initialised};
 ghost use Rattle.storage.specs.Facts.{Good};
-ghost use Rattle.events.specs.Event.{fieldsOf, eventBuffer};
+ghost use Rattle.token.specs.Token.{vaultBalance};
+ghost use Rattle.events.specs.Event.{eventBuffer};
 ghost use Rattle.outcome.specs.Outcome.{Does, Formed};
-ghost use Rattle.migration.specs.Migration.{proposalNumber, initiateNumber, initiateOutcome, initiateEmergencyMigration, noMigrationNumber, earlyNumber, executeChecks, vaultBalance, migrateNumber, migrateHolding, clearMigration, executeOutcome, executeEmergencyMigration, cancelNumber, cancelOutcome, cancelEmergencyMigration};
+ghost use Rattle.migration.specs.Migration.{proposalNumber, initiateNumber, initiateOutcome, initiateEmergencyMigration, noMigrationNumber, earlyNumber, executeChecks, migrateNumber, migrateHolding, clearMigration, executeOutcome, executeEmergencyMigration, cancelNumber, cancelOutcome, cancelEmergencyMigration};
 
 // EMERGENCY_MIGRATION_TIMELOCK_SECONDS: 48 hours.
 const TIMELOCK: u64 = 172800;
@@ -115,14 +115,6 @@ fn execute_check(img: &[u8], caller: u8, signers: u64, time: u64) -> u8
     early_check(img, time)
 }
 
-fn vault_balance(img: &[u8]) -> Amount
-    requires { ⌜ Good (now img) × (initialised (now img) ≡ 1) ⌝ }
-    ensures { λ r. ⌜ biased r ≡ vaultBalance (now (img .entry)) ⌝ }
-{
-    let t = fields::get8(img, 3);
-    token::balance(img, t as usize, 1)
-}
-
 // 23; a holding of 0 makes no transfer.
 fn migrate_holding(img: &mut [u8], held: Amount) -> u8
     requires { ⌜ Good (now img) × (initialised (now img) ≡ 1) × (biased held ≡ vaultBalance (now img)) ⌝ }
@@ -147,19 +139,6 @@ fn clear_migration(img: &mut [u8])
     fields::put64(img, 64, 0);
 }
 
-// Done with a value and one event.
-fn announce_value(events: &mut [u8], event: Event, value: Amount) -> Answer
-    requires { ⌜ now events ≡ eventBuffer [] ⌝ }
-    ensures { λ r. ⌜ (r .number ≡ 0) × (biased (r .value) ≡ biased value) × (r .events ≡ 1) × (now (events .exit) ≡ eventBuffer (fieldsOf event ∷ [])) ⌝ }
-{
-    events::put_event(events, 0, event);
-    Answer {
-        number: 0,
-        value,
-        events: 1,
-    }
-}
-
 fn execute_emergency_migration_of(
     img: &mut [u8],
     events: &mut [u8],
@@ -175,13 +154,13 @@ fn execute_emergency_migration_of(
         return outcome::refuse(k);
     }
     let to = fields::get8(img, 7);
-    let held = vault_balance(img);
+    let held = token::vault_balance(img);
     let j = migrate_holding(img, held);
     if j != 0 {
         return outcome::refuse(j);
     }
     clear_migration(img);
-    announce_value(
+    outcome::announce_value(
         events,
         events::emergency_migration_executed(caller, to, held),
         held,

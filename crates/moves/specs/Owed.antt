@@ -7,13 +7,12 @@ use native.Mathlib.Omega.{arith}
 use borrow.Author.Tests.{eq-eqb, ne-eqb}
 use lib.Dec.{eqb}
 use Rattle.book.specs.Book.{Book, BookIs, adds, enterBook}
-use Rattle.book.specs.Entries.{added, quietOperation, quiet}
+use Rattle.book.specs.Entries.{added, still-booked, kind-booked, quietOperation, quiet}
 use Rattle.book.specs.Moves.{transfer-moves}
 use Rattle.book.specs.Owed.{Owed}
-use Rattle.outcome.specs.Outcome.{Formed}
+use Rattle.outcome.specs.FormedLaws.{caller-in, other-in}
 use Rattle.record.specs.Form.{member, readsCaller, readsOther}
 use Rattle.record.specs.Record.{operationOf, callerOf, tokenOf, otherOf, flagOf, amountOf}
-use Rattle.record.specs.Laws.{caller-below, other-below}
 use Rattle.token.specs.Token.{arrives, received, transferRules, transferOf}
 use Rattle.token.specs.Laws.{debited-other, transfer-to, transfer-other, good-transfer}
 use Rattle.storage.specs.Facts.{Good}
@@ -23,7 +22,7 @@ use Rattle.amount.specs.Biased.{bias}
 use Rattle.fields.specs.Logic.{_and_}
 use Rattle.fields.specs.Rules.{AllFail, pick}
 use Rattle.moves.specs.Outside.{outsideMoveOutcome, outsideMove, frozenKind, freezeOutcome, freeze}
-use Rattle.moves.specs.Laws.{outside-move-free, freeze-free, still-booked, kind-booked}
+use Rattle.moves.specs.Laws.{outside-move-free, freeze-free}
 
 -- ---- 29
 enter-29 : (b : Book) (r e : List ℕ) → operationOf r ≡ 29 → enterBook b r e ≡ pick (eqb (otherOf r) 1) (adds (tokenOf r) (amountOf r - bias) b) b
@@ -56,25 +55,16 @@ module _ (l : List ℕ) (from t to n : ℕ) (g : Good l) (fh : from < 64) (toh :
           let e = transfer-other l t from to n 1 (λ y. s (sym y)) (λ y. q (sym y)) in
           rw (ne-eqb to 1 q) (still-booked b m (rw e at v))
 
-module _ {r : List ℕ} (f : Formed 29 r) where
-  caller-in : callerOf r < 64
-  unfolding readsCaller member
-  caller-in = caller-below r 29 (f .formed) (f .operation) refl
-
-  other-in : otherOf r < 64
-  unfolding readsOther member
-  other-in = other-below r 29 (f .formed) (f .operation) refl
-
 pub outside-move-owed : Owed 29 outsideMove
-unfolding outsideMoveOutcome
+unfolding outsideMoveOutcome readsCaller readsOther member
 outside-move-owed =
     record {
       good = λ l r g f z.
           let (s, p, a) = outside-move-free l (callerOf r) (tokenOf r) (otherOf r) (amountOf r) z in
-          good-transfer l (tokenOf r) (callerOf r) (otherOf r) (amountOf r) g (caller-in f) (other-in f) (omega arith) a;
+          good-transfer l (tokenOf r) (callerOf r) (otherOf r) (amountOf r) g (caller-in f refl) (other-in f refl) (omega arith) a;
       booked = λ b l r g f z m.
           let (s, p, a) = outside-move-free l (callerOf r) (tokenOf r) (otherOf r) (amountOf r) z in
-          rw (enter-29 b r _ (f .operation)) (outside-booked l (callerOf r) (tokenOf r) (otherOf r) (amountOf r) g (caller-in f) (other-in f) s p a b m);
+          rw (enter-29 b r _ (f .operation)) (outside-booked l (callerOf r) (tokenOf r) (otherOf r) (amountOf r) g (caller-in f refl) (other-in f refl) s p a b m);
     }
 
 -- ---- 30
@@ -91,9 +81,9 @@ unfolding freezeOutcome quietOperation _and_
 freeze-owed =
     record {
       good = λ l r g f z.
-          let (low, high, k) = freeze-free l (tokenOf r) refl z in
+          let (low, high, _) = freeze-free l (tokenOf r) refl z in
           let (p, q) = frozen-range (flagOf r) in
-          good-kind l (slot (tokenOf r)) (frozenKind (flagOf r)) g (omega arith) k p q;
+          good-kind l (slot (tokenOf r)) (frozenKind (flagOf r)) g (omega arith) p q;
       booked = λ b l r g f z m.
           let (low, high, k) = freeze-free l (tokenOf r) refl z in
           rw (quiet b r _ 30 (f .operation) refl) (kind-booked b l (slot (tokenOf r)) (frozenKind (flagOf r)) (omega arith) m);

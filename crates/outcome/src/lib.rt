@@ -2,7 +2,7 @@
 use amount::Amount;
 use events::Event;
 ghost use mathlib.Core.Path.{_≡_};
-ghost use mathlib.Core.List.{[]};
+ghost use mathlib.Core.List.{[], _∷_};
 ghost use Rattle.amount.specs.Biased.{bias, biased};
 ghost use Rattle.events.specs.Event.{fieldsOf, eventBuffer};
 ghost use Rattle.outcome.specs.Outcome.{Announced};
@@ -52,4 +52,17 @@ pub fn announce(events: &mut [u8], event: Event) -> Answer
 {
     events::put_event(events, 0, event);
     done(1)
+}
+
+// Done with a value and one event.
+pub fn announce_value(events: &mut [u8], event: Event, value: Amount) -> Answer
+    requires { ⌜ now events ≡ eventBuffer [] ⌝ }
+    ensures { λ r. ⌜ (r .number ≡ 0) × (biased (r .value) ≡ biased value) × (r .events ≡ 1) × (now (events .exit) ≡ eventBuffer (fieldsOf event ∷ [])) ⌝ }
+{
+    events::put_event(events, 0, event);
+    Answer {
+        number: 0,
+        value,
+        events: 1,
+    }
 }

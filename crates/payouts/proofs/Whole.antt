@@ -8,7 +8,7 @@ use Rattle.outcome.specs.declared.Answer.{Answer}
 use Rattle.outcome.specs.Outcome.{Does, accepted}
 use Rattle.events.specs.Kinds.{withdrawnEvent}
 use Rattle.events.specs.Event.{EventFields, putEvent, eventBuffer}
-use Rattle.events.specs.Buffer.{length-eventBuffer, append-event, appended}
+use Rattle.events.specs.Buffer.{append-event, appended}
 use Rattle.token.specs.Token.{transferOf}
 use Rattle.token.specs.Laws.{good-transfer}
 use Rattle.storage.specs.Facts.{Keys, Good}
@@ -21,9 +21,6 @@ use Rattle.payouts.specs.Parts.{putEvents, Pays}
 use Rattle.payouts.specs.Token.{withdrawTokenChecks, withdrawTokenNumber, takeCredit, withdrawTokenImage, withdrawTokenOutcome}
 use Rattle.payouts.specs.Payouts.{Payout, withdrawChecks, payNumber, payoutsEvents, byOperator, withdrawNumber, withdrawOutcome}
 use native.Mathlib.Nat.{add-zero}
-
-pub blank-long : {e : List ℕ} → e ≡ eventBuffer [] → length e ≡ 896
-blank-long p = rw p (length-eventBuffer [] (omega arith))
 
 -- events put one after another make the buffer of all of them
 put-all : (fs es : List EventFields) (i : ℕ) → length es ≡ i → i + length fs ≤ 16 → putEvents (eventBuffer es) i fs ≡ eventBuffer (es ++ fs)

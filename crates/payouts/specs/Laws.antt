@@ -8,7 +8,7 @@ use Rattle.checks.specs.Passed.{amount-free, shared-free}
 use Rattle.outcome.specs.Outcome.{Formed}
 use Rattle.record.specs.Form.{member, readsItems}
 use Rattle.record.specs.Record.{itemCountOf, itemAddress}
-use Rattle.record.specs.Laws.{item-below}
+use Rattle.outcome.specs.FormedLaws.{item-in}
 use Rattle.token.specs.Token.{arrives, received, transferRules, transferNumber}
 use Rattle.token.specs.Laws.{absent-free, transfer-free, debited-from, transfer-to}
 use Rattle.storage.specs.Facts.{Good}
@@ -33,7 +33,7 @@ items-addressed (suc n) i r h = (h i (omega arith) (omega arith), items-addresse
 
 pub batch-addressed : {r : List ℕ} → Formed 6 r → Addressed (items (itemCountOf r) 0 r)
 unfolding readsItems member
-batch-addressed {r} f = items-addressed (itemCountOf r) 0 r (λ j p q. item-below r 6 (f .formed) (f .operation) refl j (omega arith))
+batch-addressed {r} f = items-addressed (itemCountOf r) 0 r (λ j p q. item-in f refl j (omega arith))
 
 -- ---- amounts
 pub item-free : (sum n : ℕ) {k : ℕ} → k ≡ itemNumber sum n → k ≡ 0 → AllFail (itemRules sum n)

@@ -5,9 +5,9 @@ use Prim.Native.Nat.{ℕ, _-_, _<_}
 use Rattle.book.specs.Book.{Book, takes, takesItems, enterBook}
 use Rattle.book.specs.Owed.{Owed}
 use Rattle.outcome.specs.Outcome.{Formed}
+use Rattle.outcome.specs.FormedLaws.{caller-in, other-in}
 use Rattle.record.specs.Form.{member, readsCaller, readsOther}
 use Rattle.record.specs.Record.{operationOf, callerOf, tokenOf, otherOf, itemCountOf, sequenceOf, signersOf, amountOf}
-use Rattle.record.specs.Laws.{caller-below, other-below}
 use Rattle.amount.specs.Biased.{bias}
 use Rattle.payouts.specs.Moved.{takesAll, items-takesAll, withdraw-good, withdraw-booked, token-good, token-booked}
 use Rattle.payouts.specs.Token.{withdrawTokenOutcome, withdrawToken}
@@ -17,11 +17,11 @@ use Rattle.payouts.specs.Payouts.{withdrawOutcome, withdraw, withdrawBat
 module _ {r : List ℕ} where
   payee-5 : Formed 5 r → otherOf r < 64
   unfolding readsOther member
-  payee-5 f = other-below r 5 (f .formed) (f .operation) refl
+  payee-5 f = other-in f refl
 
   both-8 : Formed 8 r → (callerOf r < 64) × (otherOf r < 64)
   unfolding readsCaller readsOther member
-  both-8 f = (caller-below r 8 (f .formed) (f .operation) refl, other-below r 8 (f .formed) (f .operation) refl)
+  both-8 f = (caller-in f refl, other-in f refl)
 
 module _ (b : Book) (r e : List ℕ) where
   enter-5 : operationOf r ≡ 5 → enterBook b r e ≡ takes (b .token) (amountOf r - bias) b

@@ -1,10 +1,11 @@
 // The record of a call, 448 bytes: its fields, which of them each operation reads, and refusal 32.
 use amount::Amount;
+use fields::either;
 ghost use mathlib.Core.Path.{_≡_};
 ghost use Prim.Native.Nat.{_<_, _≤_};
 ghost use lib.Dec.{ltb};
 ghost use lib.ListN.{length};
-ghost use Rattle.fields.specs.Logic.{_and_, _or_};
+ghost use Rattle.fields.specs.Logic.{_and_};
 ghost use Rattle.amount.specs.Biased.{biased};
 ghost use Rattle.record.specs.Record.{operationOf, callerOf, tokenOf, otherOf, flagOf, itemCountOf, timestampOf, sequenceOf, signersOf, amountOf, timeToLiveOf, feeOf, itemAddress, itemAmount};
 ghost use Rattle.record.specs.Form.{readsCaller, readsToken, readsOther, readsFlag, readsItems, isView, itemsWithin, headExceeds, itemsExceed, formNumber};
@@ -180,12 +181,6 @@ fn items_within(rec: &[u8], count: usize) -> bool
         i += 1;
     }
     true
-}
-
-fn either(a: bool, b: bool) -> bool
-    ensures { λ r. ⌜ r ≡ a or b ⌝ }
-{
-    if a { true } else { b }
 }
 
 fn head_exceeds(rec: &[u8]) -> bool

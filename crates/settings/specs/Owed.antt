@@ -1,41 +1,26 @@
 -- What operations 10 to 14, 18 and 19 owe to demand 3: none of them moves money.
 use mathlib.Core.Path.{_≡_, refl, sym, ap, _∙_}
-use mathlib.Core.Bool.{true}
 use mathlib.Core.List.{List}
 use Prim.Native.Nat.{ℕ, _+_, _<_}
 use native.Mathlib.Omega.{arith}
 use Rattle.book.specs.Book.{Book, BookIs}
 use Rattle.book.specs.Owed.{Owed}
 use Rattle.book.specs.Entries.{settled, head-settled, quietOperation, quiet}
-use Rattle.outcome.specs.Outcome.{Formed}
+use Rattle.outcome.specs.FormedLaws.{token-in, other-in, amount-in}
 use Rattle.checks.specs.Passed.{initialised-free, amount-free, owner-free, shared-free}
 use Rattle.record.specs.Form.{member, readsToken, readsOther}
 use Rattle.record.specs.Record.{callerOf, tokenOf, otherOf, signersOf, amountOf}
-use Rattle.record.specs.Laws.{token-below, other-below}
 use Rattle.storage.specs.Kept.{setCap-below, setCap-above, good-setCap}
-use Rattle.storage.specs.Heads.{at-head, at-head-amount, good-limit, good-pause, good-unpause, good-set-operator, good-revoke-operator, good-set-operator-limit}
+use Rattle.storage.specs.Heads.{at-head, at-head-amount, flags-put, good-limit, good-pause, good-unpause, good-set-operator, good-revoke-operator, good-set-operator-limit}
 use Rattle.storage.specs.Facts.{Good}
 use Rattle.storage.specs.Writes.{elsewhere}
 use Rattle.storage.specs.Flags.{Turned, flag-on, flag-off}
 use Rattle.image.specs.Layout.{bit, flags, defaultToken, destination, initialised}
-use Rattle.amount.specs.Laws.{amountAt-below}
 use Rattle.amount.specs.Biased.{bias}
 use Rattle.fields.specs.Logic.{_and_}
 use Rattle.fields.specs.Frame.{Only, only-then, same-le}
 use Rattle.fields.specs.Rules.{unlinked}
-use Rattle.fields.specs.Bytes.{put, le-put-same}
 use Rattle.settings.specs.Settings.{operatorLimitNumber, operatorLimitOutcome, setOperatorWithdrawLimit, limitSetNumber, limitSetOutcome, setLimit, tokenMaxLimitNumber, tokenMaxLimitOutcome, setTokenMaxLimit, operatorSetOutcome, setOperator, operatorRevokedOutcome, revokeOperator, pauseNumber, pauseOutcome, pause, unpauseNumber, unpauseOutcome, unpause}
-
--- the caller of an operation that reads one, and the other address
-module _ {k : ℕ} {r : List ℕ} (f : Formed k r) where
-  other-in : readsOther k ≡ true → otherOf r < 64
-  other-in e = other-below r k (f .formed) (f .operation) e
-
-  token-in : readsToken k ≡ true → tokenOf r < 64
-  token-in e = token-below r k (f .formed) (f .operation) e
-
-  amount-in : amountOf r < bias + bias
-  amount-in = amountAt-below r 32 (f .bytes)
 
 -- the flags after one of them, other than the migration's, is turned: default token, destination and migration are read as before
 module _ (b : Book) (l : List ℕ) (g : Good l) (fits : BookIs b l) where
@@ -45,10 +30,6 @@ module _ (b : Book) (l : List ℕ) (g : Good l) (fits : BookIs b l) where
 
   same-booked : (m : List ℕ) → flags m ≡ flags l → Only 0 80 l m → defaultToken m ≡ defaultToken l → destination m ≡ destination l → BookIs b m
   same-booked m e o d s = head-settled b fits o d s (ap (λ (x : ℕ). bit x 5) e)
-
--- the flags written at 0, read back
-flags-put : (l : List ℕ) (f : ℕ) → Good l → f < 64 → flags (put 2 l 0 f) ≡ f
-flags-put l f g h = let n = g .long in le-put-same 2 l 0 f (omega arith) (omega arith)
 
 -- ---- 18, 19
 pause-passed : (l : List ℕ) (caller signers : ℕ) → pauseNumber l caller signers ≡ 0 → initialised l ≡ 1

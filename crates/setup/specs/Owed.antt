@@ -1,34 +1,27 @@
 -- What operations 1 and 20 owe to demand 3: neither moves money; 1 sets the default token.
 use mathlib.Core.Path.{_≡_, refl, sym, ap}
-use mathlib.Core.Bool.{true}
 use mathlib.Core.List.{List}
 use Prim.Native.Nat.{ℕ, _+_, _≤_, _<_}
 use native.Mathlib.Omega.{arith}
 use Rattle.book.specs.Book.{Book, enterBook, BookIs}
 use Rattle.book.specs.Owed.{Owed}
 use Rattle.book.specs.Entries.{unmoved, head-settled, quietOperation, quiet}
-use Rattle.outcome.specs.Outcome.{Formed}
+use Rattle.outcome.specs.FormedLaws.{caller-in, amount-in}
 use Rattle.checks.specs.Checks.{initialisedBit}
 use Rattle.checks.specs.Passed.{flag-is, amount-free, owner-free}
 use Rattle.record.specs.Form.{member, readsCaller}
 use Rattle.record.specs.Record.{operationOf, callerOf, tokenOf, flagOf, signersOf, amountOf}
-use Rattle.record.specs.Laws.{caller-below}
 use Rattle.token.specs.Laws.{absent-free}
 use Rattle.storage.specs.Heads.{at-head, at-head-amount, good-approved, good-initialise}
 use Rattle.storage.specs.Facts.{Good}
 use Rattle.storage.specs.Writes.{elsewhere}
 use Rattle.image.specs.Layout.{slot, bit, flags, defaultToken, destination, approvedSet, kind, initialised, withBit}
-use Rattle.amount.specs.Laws.{amountAt-below}
 use Rattle.amount.specs.Biased.{bias, putAmount}
 use Rattle.fields.specs.Logic.{_and_}
 use Rattle.fields.specs.Frame.{Only, only-then, over, zero-le}
 use Rattle.fields.specs.Rules.{free, unlinked}
 use Rattle.fields.specs.Bytes.{put, length-put, le-put-same}
 use Rattle.setup.specs.Setup.{validTokenNumber, approveNumber, approveOutcome, approveToken, doneBeforeRules, doneBeforeNumber, initializeNumber, initializeImage, initializeOutcome, initialize}
-
-module _ {k : ℕ} {r : List ℕ} (f : Formed k r) where
-  caller-in : readsCaller k ≡ true → callerOf r < 64
-  caller-in e = caller-below r k (f .formed) (f .operation) e
 
 -- ---- 20
 approve-passed : (l : List ℕ) (caller signers t on : ℕ) → approveNumber l caller signers t on ≡ 0 → initialised l ≡ 1
@@ -121,8 +114,8 @@ unfolding initializeOutcome readsCaller member
 initialize-owed =
     record {
       good = λ l r g f z.
-          initialize-good l (callerOf r) (tokenOf r) (amountOf r) g (caller-in f refl) (amountAt-below r 32 (f .bytes)) (initialize-passed l (callerOf r) (signersOf r) (tokenOf r) (amountOf r) z);
+          initialize-good l (callerOf r) (tokenOf r) (amountOf r) g (caller-in f refl) (amount-in f) (initialize-passed l (callerOf r) (signersOf r) (tokenOf r) (amountOf r) z);
       booked = λ b l r g f z m.
           rw (enter-1 b r _ (f .operation))
-          (initialize-booked l (callerOf r) (tokenOf r) (amountOf r) g (caller-in f refl) (amountAt-below r 32 (f .bytes)) (initialize-passed l (callerOf r) (signersOf r) (tokenOf r) (amountOf r) z) b m);
+          (initialize-booked l (callerOf r) (tokenOf r) (amountOf r) g (caller-in f refl) (amount-in f) (initialize-passed l (callerOf r) (signersOf r) (tokenOf r) (amountOf r) z) b m);
     }

@@ -23,6 +23,10 @@ at-head w l at x h = only-in 0 80 at w (omega arith) (omega arith) (only-put w l
 pub at-head-amount : (l : List ℕ) (at x : ℕ) → at + 16 ≤ 80 → Only 0 80 l (putAmount l at x)
 at-head-amount l at x h = only-in 0 80 at 16 (omega arith) (omega arith) (only-putAmount l at x)
 
+-- the flags written at 0, read back
+pub flags-put : (l : List ℕ) (f : ℕ) → Good l → f < 64 → flags (put 2 l 0 f) ≡ f
+flags-put l f g h = let n = g .long in le-put-same 2 l 0 f (omega arith) (omega arith)
+
 module _ (l : List ℕ) (g : Good l) (i : initialised l ≡ 1) where
   -- ---- one field
   pub good-limit : (n : ℕ) → bias < n → n < bias + bias → Good (putAmount l 8 n)

@@ -1,4 +1,6 @@
+-- A good image as facts, and what each kind of write leaves of them.
 pub mod Facts
+pub mod Zeros
 pub mod Regions
 pub mod Values
 pub mod Bits

@@ -73,8 +73,8 @@ module _ (l : List ℕ) (t a n : ℕ) (g : Good l) (th : t < 16) (ah : a < 64) (
       (λ u h v. rw (same-kind u (under (tokenAt u) 24 at 16 o (omega arith))) v)
 
 -- ---- a token's kind: moving and frozen
-pub good-kind : (l : List ℕ) (t k : ℕ) → Good l → t < 16 → 0 < kind l t → 0 < k → k < 3 → Good (put 8 l (tokenAt t) k)
-good-kind l t k g th old p q =
+pub good-kind : (l : List ℕ) (t k : ℕ) → Good l → t < 16 → 0 < k → k < 3 → Good (put 8 l (tokenAt t) k)
+good-kind l t k g th p q =
     let at = tokenAt t in
     let o = only-put 8 l at k in
     let long = g .long in

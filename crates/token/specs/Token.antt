@@ -5,7 +5,7 @@ use Prim.Native.Nat.{ℕ, _+_, _-_}
 use lib.Dec.{eqb}
 use Rattle.fields.specs.Rules.{Guard, lt, leq, eq, ne, Rule, when, verdict, pick}
 use Rattle.amount.specs.Biased.{bias, putAmount}
-use Rattle.image.specs.Layout.{slot, kind, toll, holding, holdingAt}
+use Rattle.image.specs.Layout.{slot, defaultToken, kind, toll, holding, holdingAt}
 
 -- 23 where there is no such token: `balance` has nothing to answer
 abbrev pub absentRules : List ℕ → ℕ → List Rule
@@ -17,6 +17,10 @@ absentRules l t =
 
 unfoldable pub absentNumber : List ℕ → ℕ → ℕ
 absentNumber l t = verdict (absentRules l t)
+
+-- the number of the vault's holding of its default token
+abbrev pub vaultBalance : List ℕ → ℕ
+vaultBalance l = holding l (slot (defaultToken l)) 1
 
 -- what a receiver gets of an amount: all but the toll
 unfoldable pub arrives : List ℕ → ℕ → ℕ → ℕ

@@ -4,9 +4,9 @@ ghost use mathlib.Core.Path.{_≡_};
 ghost use Prim.Native.Nat.{ℕ, _+_, _-_, _<_, _≤_};
 ghost use lib.ListN.{length};
 ghost use Rattle.amount.specs.Biased.{bias, biased, putAmount};
-ghost use Rattle.image.specs.Layout.{imageLength, slot, holding, holdingAt};
+ghost use Rattle.image.specs.Layout.{imageLength, initialised, slot, holding, holdingAt};
 ghost use Rattle.storage.specs.Facts.{Good};
-ghost use Rattle.token.specs.Token.{absentNumber, arrives, debited, transferNumber, transferred};
+ghost use Rattle.token.specs.Token.{absentNumber, vaultBalance, arrives, debited, transferNumber, transferred};
 
 // 23 where there is no such token, and 0.
 pub fn presence_check(img: &[u8], t: usize) -> u8
@@ -30,6 +30,14 @@ pub fn balance(img: &[u8], t: usize, a: usize) -> Amount
     ensures { λ r. ⌜ biased r ≡ holding (now (img .entry)) (slot t) a ⌝ }
 {
     amount::read_amount(img, 4064 + 1024 * (t - 48) + 16 * a)
+}
+
+// What the vault holds of its default token.
+pub fn vault_balance(img: &[u8]) -> Amount
+    requires { ⌜ Good (now img) × (initialised (now img) ≡ 1) ⌝ }
+    ensures { λ r. ⌜ biased r ≡ vaultBalance (now (img .entry)) ⌝ }
+{
+    balance(img, fields::get8(img, 3) as usize, 1)
 }
 
 fn set_balance(img: &mut [u8], t: usize, a: usize, n: Amount)

@@ -7,9 +7,9 @@ use Rattle.fields.specs.Logic.{_and_, _or_, all}
 use Rattle.fields.specs.Bytes.{le, put, bytes}
 use Rattle.fields.specs.Rules.{verdict, chain, orElse}
 use Rattle.amount.specs.Biased.{bias, amountAt, putAmount}
-use Rattle.record.specs.Form.{readsCaller, readsToken, readsOther, readsFlag, readsItems, isView, itemsWithin, headExceeds, itemsExceed, formNumber}
+use Rattle.record.specs.Form.{member, readsCaller, readsToken, readsOther, readsFlag, readsItems, isView, itemsWithin, headExceeds, itemsExceed, formNumber}
 use Rattle.events.specs.Kinds.{operatorWithdrawLimitSetEvent}
-use Rattle.checks.specs.Checks.{flag, pausedNumber, signedNumber, initialisedNumber, notOwnerNumber, ownerNumber, insider, notInsiderNumber, sharedNumber, amountNumber, maxVaultDeposit, depositAmountNumber, approvedNumber, limitNumber, capNumber, fundsNumber}
+use Rattle.checks.specs.Checks.{flag, inSet, pausedNumber, signedNumber, initialisedNumber, notOwnerNumber, ownerNumber, insider, notInsiderNumber, sharedNumber, amountNumber, maxVaultDeposit, depositAmountNumber, approvedNumber, limitNumber, capNumber, fundsNumber}
 use Rattle.image.specs.Layout.{credit}
 use Rattle.image.specs.Good.{notNegativeHere, notNegatives, aboveWhere, goodAddresses, goodDefaults, goodPending, goodMigration, goodOptions, goodHead, goodCap, tracked, freshKey, goodKeys, goodSnapshot, goodAbsent, goodPresent, goodToken, goodImage}
 use Rattle.fields.specs.Zeros.{each, zeroHere, zeros}
@@ -30,135 +30,135 @@ use Rattle.vault_cases.proofs.Runs.{Accepts, Refuses, Views, differing}
 use Rattle.vault_cases.proofs.Flat.{imageOf, paperBytes, paidBytes, depositedBytes, migratedBytes, credited, noCredit, creditOfTen, creditFull}
 
 pub pays-40-60 : (z : List ℕ) → Accepts (paperBytes z) (paysTwo 2 40 60) 0 2
-unfolding imageOf request requestOf paysTwo withdrawOutcome withdrawNumber payoutsNumber payNumber payImage remainingNumber withdrawChecks itemsSum itemsNumber itemNumber noItemNumber items payoutsEvents payoutsImage absentNumber arrives debited received transferNumber transferOf recordBalance snapshotNumber outcomeOf formNumber headExceeds itemsExceed itemsWithin readsCaller readsToken readsOther readsFlag readsItems isView Rattle.record.specs.Form.member view bytes flag Rattle.checks.specs.Checks.member pausedNumber signedNumber initialisedNumber notOwnerNumber ownerNumber insider notInsiderNumber sharedNumber amountNumber maxVaultDeposit depositAmountNumber approvedNumber limitNumber capNumber fundsNumber verdict chain orElse all _and_ _or_ bias amountAt putAmount put le
+unfolding imageOf request requestOf paysTwo withdrawOutcome withdrawNumber payoutsNumber payNumber payImage remainingNumber withdrawChecks itemsSum itemsNumber itemNumber noItemNumber items payoutsEvents payoutsImage absentNumber arrives debited received transferNumber transferOf recordBalance snapshotNumber outcomeOf formNumber headExceeds itemsExceed itemsWithin readsCaller readsToken readsOther readsFlag readsItems isView member view bytes flag inSet pausedNumber signedNumber initialisedNumber notOwnerNumber ownerNumber insider notInsiderNumber sharedNumber amountNumber maxVaultDeposit depositAmountNumber approvedNumber limitNumber capNumber fundsNumber verdict chain orElse all _and_ _or_ bias amountAt putAmount put le
 pays-40-60 z = record { formed = refl; changes = refl; number = refl; value-is = refl; count-is = refl }
 
 pub pays-41-60 : (z : List ℕ) → Refuses (paperBytes z) (paysTwo 2 41 60) 5
-unfolding imageOf request requestOf paysTwo withdrawOutcome withdrawNumber payoutsNumber payNumber payImage remainingNumber withdrawChecks itemsSum itemsNumber itemNumber noItemNumber items payoutsEvents payoutsImage absentNumber arrives debited received transferNumber transferOf recordBalance snapshotNumber outcomeOf formNumber headExceeds itemsExceed itemsWithin readsCaller readsToken readsOther readsFlag readsItems isView Rattle.record.specs.Form.member view bytes flag Rattle.checks.specs.Checks.member pausedNumber signedNumber initialisedNumber notOwnerNumber ownerNumber insider notInsiderNumber sharedNumber amountNumber maxVaultDeposit depositAmountNumber approvedNumber limitNumber capNumber fundsNumber verdict chain orElse all _and_ _or_ bias amountAt putAmount put le
+unfolding imageOf request requestOf paysTwo withdrawOutcome withdrawNumber payoutsNumber payNumber payImage remainingNumber withdrawChecks itemsSum itemsNumber itemNumber noItemNumber items payoutsEvents payoutsImage absentNumber arrives debited received transferNumber transferOf recordBalance snapshotNumber outcomeOf formNumber headExceeds itemsExceed itemsWithin readsCaller readsToken readsOther readsFlag readsItems isView member view bytes flag inSet pausedNumber signedNumber initialisedNumber notOwnerNumber ownerNumber insider notInsiderNumber sharedNumber amountNumber maxVaultDeposit depositAmountNumber approvedNumber limitNumber capNumber fundsNumber verdict chain orElse all _and_ _or_ bias amountAt putAmount put le
 pays-41-60 z = record { formed = refl; number = refl }
 
 pub limited : (z : List ℕ) → Accepts (paperBytes z) (limitsOperator 50) 0 1
-unfolding imageOf request requestOf operatorLimitOutcome operatorLimitNumber operatorWithdrawLimitSetEvent outcomeOf formNumber headExceeds itemsExceed itemsWithin readsCaller readsToken readsOther readsFlag readsItems isView Rattle.record.specs.Form.member view bytes flag Rattle.checks.specs.Checks.member pausedNumber signedNumber initialisedNumber notOwnerNumber ownerNumber insider notInsiderNumber sharedNumber amountNumber maxVaultDeposit depositAmountNumber approvedNumber limitNumber capNumber fundsNumber verdict chain orElse all _and_ _or_ bias amountAt putAmount put le
+unfolding imageOf request requestOf operatorLimitOutcome operatorLimitNumber operatorWithdrawLimitSetEvent outcomeOf formNumber headExceeds itemsExceed itemsWithin readsCaller readsToken readsOther readsFlag readsItems isView member view bytes flag inSet pausedNumber signedNumber initialisedNumber notOwnerNumber ownerNumber insider notInsiderNumber sharedNumber amountNumber maxVaultDeposit depositAmountNumber approvedNumber limitNumber capNumber fundsNumber verdict chain orElse all _and_ _or_ bias amountAt putAmount put le
 limited z = record { formed = refl; changes = refl; number = refl; value-is = refl; count-is = refl }
 
 pub pays-30-20 : (z : List ℕ) → Accepts (outcomeOf (paperBytes z) (limitsOperator 50) .image) (paysTwo 3 30 20) 0 2
-unfolding imageOf request requestOf operatorLimitOutcome operatorLimitNumber operatorWithdrawLimitSetEvent paysTwo withdrawOutcome withdrawNumber payoutsNumber payNumber payImage remainingNumber withdrawChecks itemsSum itemsNumber itemNumber noItemNumber items payoutsEvents payoutsImage absentNumber arrives debited received transferNumber transferOf recordBalance snapshotNumber outcomeOf formNumber headExceeds itemsExceed itemsWithin readsCaller readsToken readsOther readsFlag readsItems isView Rattle.record.specs.Form.member view bytes flag Rattle.checks.specs.Checks.member pausedNumber signedNumber initialisedNumber notOwnerNumber ownerNumber insider notInsiderNumber sharedNumber amountNumber maxVaultDeposit depositAmountNumber approvedNumber limitNumber capNumber fundsNumber verdict chain orElse all _and_ _or_ bias amountAt putAmount put le
+unfolding imageOf request requestOf operatorLimitOutcome operatorLimitNumber operatorWithdrawLimitSetEvent paysTwo withdrawOutcome withdrawNumber payoutsNumber payNumber payImage remainingNumber withdrawChecks itemsSum itemsNumber itemNumber noItemNumber items payoutsEvents payoutsImage absentNumber arrives debited received transferNumber transferOf recordBalance snapshotNumber outcomeOf formNumber headExceeds itemsExceed itemsWithin readsCaller readsToken readsOther readsFlag readsItems isView member view bytes flag inSet pausedNumber signedNumber initialisedNumber notOwnerNumber ownerNumber insider notInsiderNumber sharedNumber amountNumber maxVaultDeposit depositAmountNumber approvedNumber limitNumber capNumber fundsNumber verdict chain orElse all _and_ _or_ bias amountAt putAmount put le
 pays-30-20 z = record { formed = refl; changes = refl; number = refl; value-is = refl; count-is = refl }
 
 pub pays-30-21 : (z : List ℕ) → Refuses (outcomeOf (paperBytes z) (limitsOperator 50) .image) (paysTwo 3 30 21) 5
-unfolding imageOf request requestOf operatorLimitOutcome operatorLimitNumber operatorWithdrawLimitSetEvent paysTwo withdrawOutcome withdrawNumber payoutsNumber payNumber payImage remainingNumber withdrawChecks itemsSum itemsNumber itemNumber noItemNumber items payoutsEvents payoutsImage absentNumber arrives debited received transferNumber transferOf recordBalance snapshotNumber outcomeOf formNumber headExceeds itemsExceed itemsWithin readsCaller readsToken readsOther readsFlag readsItems isView Rattle.record.specs.Form.member view bytes flag Rattle.checks.specs.Checks.member pausedNumber signedNumber initialisedNumber notOwnerNumber ownerNumber insider notInsiderNumber sharedNumber amountNumber maxVaultDeposit depositAmountNumber approvedNumber limitNumber capNumber fundsNumber verdict chain orElse all _and_ _or_ bias amountAt putAmount put le
+unfolding imageOf request requestOf operatorLimitOutcome operatorLimitNumber operatorWithdrawLimitSetEvent paysTwo withdrawOutcome withdrawNumber payoutsNumber payNumber payImage remainingNumber withdrawChecks itemsSum itemsNumber itemNumber noItemNumber items payoutsEvents payoutsImage absentNumber arrives debited received transferNumber transferOf recordBalance snapshotNumber outcomeOf formNumber headExceeds itemsExceed itemsWithin readsCaller readsToken readsOther readsFlag readsItems isView member view bytes flag inSet pausedNumber signedNumber initialisedNumber notOwnerNumber ownerNumber insider notInsiderNumber sharedNumber amountNumber maxVaultDeposit depositAmountNumber approvedNumber limitNumber capNumber fundsNumber verdict chain orElse all _and_ _or_ bias amountAt putAmount put le
 pays-30-21 z = record { formed = refl; number = refl }
 
 pub pays-itself : (z : List ℕ) → Refuses (paperBytes z) (paysTo 1 5) 12
-unfolding imageOf request requestOf paysTo withdrawOutcome withdrawNumber payoutsNumber payNumber payImage remainingNumber withdrawChecks itemsSum itemsNumber itemNumber noItemNumber items payoutsEvents payoutsImage absentNumber arrives debited received transferNumber transferOf recordBalance snapshotNumber outcomeOf formNumber headExceeds itemsExceed itemsWithin readsCaller readsToken readsOther readsFlag readsItems isView Rattle.record.specs.Form.member view bytes flag Rattle.checks.specs.Checks.member pausedNumber signedNumber initialisedNumber notOwnerNumber ownerNumber insider notInsiderNumber sharedNumber amountNumber maxVaultDeposit depositAmountNumber approvedNumber limitNumber capNumber fundsNumber verdict chain orElse all _and_ _or_ bias amountAt putAmount put le
+unfolding imageOf request requestOf paysTo withdrawOutcome withdrawNumber payoutsNumber payNumber payImage remainingNumber withdrawChecks itemsSum itemsNumber itemNumber noItemNumber items payoutsEvents payoutsImage absentNumber arrives debited received transferNumber transferOf recordBalance snapshotNumber outcomeOf formNumber headExceeds itemsExceed itemsWithin readsCaller readsToken readsOther readsFlag readsItems isView member view bytes flag inSet pausedNumber signedNumber initialisedNumber notOwnerNumber ownerNumber insider notInsiderNumber sharedNumber amountNumber maxVaultDeposit depositAmountNumber approvedNumber limitNumber capNumber fundsNumber verdict chain orElse all _and_ _or_ bias amountAt putAmount put le
 pays-itself z = record { formed = refl; number = refl }
 
 pub deposits-900 : (z : List ℕ) → Accepts (paperBytes z) (deposits 900) 0 1
-unfolding imageOf request requestOf depositOutcome depositChecks fundingNumber receiveNumber expectedNumber absentNumber arrives debited received transferNumber transferOf recordBalance snapshotNumber outcomeOf formNumber headExceeds itemsExceed itemsWithin readsCaller readsToken readsOther readsFlag readsItems isView Rattle.record.specs.Form.member view bytes flag Rattle.checks.specs.Checks.member pausedNumber signedNumber initialisedNumber notOwnerNumber ownerNumber insider notInsiderNumber sharedNumber amountNumber maxVaultDeposit depositAmountNumber approvedNumber limitNumber capNumber fundsNumber verdict chain orElse all _and_ _or_ bias amountAt putAmount put le
+unfolding imageOf request requestOf depositOutcome depositChecks fundingNumber receiveNumber expectedNumber absentNumber arrives debited received transferNumber transferOf recordBalance snapshotNumber outcomeOf formNumber headExceeds itemsExceed itemsWithin readsCaller readsToken readsOther readsFlag readsItems isView member view bytes flag inSet pausedNumber signedNumber initialisedNumber notOwnerNumber ownerNumber insider notInsiderNumber sharedNumber amountNumber maxVaultDeposit depositAmountNumber approvedNumber limitNumber capNumber fundsNumber verdict chain orElse all _and_ _or_ bias amountAt putAmount put le
 deposits-900 z = record { formed = refl; changes = refl; number = refl; value-is = refl; count-is = refl }
 
 pub deposits-901 : (z : List ℕ) → Refuses (paperBytes z) (deposits 901) 5
-unfolding imageOf request requestOf depositOutcome depositChecks fundingNumber receiveNumber expectedNumber absentNumber arrives debited received transferNumber transferOf recordBalance snapshotNumber outcomeOf formNumber headExceeds itemsExceed itemsWithin readsCaller readsToken readsOther readsFlag readsItems isView Rattle.record.specs.Form.member view bytes flag Rattle.checks.specs.Checks.member pausedNumber signedNumber initialisedNumber notOwnerNumber ownerNumber insider notInsiderNumber sharedNumber amountNumber maxVaultDeposit depositAmountNumber approvedNumber limitNumber capNumber fundsNumber verdict chain orElse all _and_ _or_ bias amountAt putAmount put le
+unfolding imageOf request requestOf depositOutcome depositChecks fundingNumber receiveNumber expectedNumber absentNumber arrives debited received transferNumber transferOf recordBalance snapshotNumber outcomeOf formNumber headExceeds itemsExceed itemsWithin readsCaller readsToken readsOther readsFlag readsItems isView member view bytes flag inSet pausedNumber signedNumber initialisedNumber notOwnerNumber ownerNumber insider notInsiderNumber sharedNumber amountNumber maxVaultDeposit depositAmountNumber approvedNumber limitNumber capNumber fundsNumber verdict chain orElse all _and_ _or_ bias amountAt putAmount put le
 deposits-901 z = record { formed = refl; number = refl }
 
 pub fee-9 : (z : List ℕ) → Accepts (paperBytes z) (depositsWithFee 10 9) 0 2
-unfolding imageOf request requestOf depositsWithFee depositWithFeeOutcome feeNumber grossNumber depositOutcome depositChecks fundingNumber receiveNumber expectedNumber absentNumber arrives debited received transferNumber transferOf recordBalance snapshotNumber outcomeOf formNumber headExceeds itemsExceed itemsWithin readsCaller readsToken readsOther readsFlag readsItems isView Rattle.record.specs.Form.member view bytes flag Rattle.checks.specs.Checks.member pausedNumber signedNumber initialisedNumber notOwnerNumber ownerNumber insider notInsiderNumber sharedNumber amountNumber maxVaultDeposit depositAmountNumber approvedNumber limitNumber capNumber fundsNumber verdict chain orElse all _and_ _or_ bias amountAt putAmount put le
+unfolding imageOf request requestOf depositsWithFee depositWithFeeOutcome feeNumber grossNumber depositOutcome depositChecks fundingNumber receiveNumber expectedNumber absentNumber arrives debited received transferNumber transferOf recordBalance snapshotNumber outcomeOf formNumber headExceeds itemsExceed itemsWithin readsCaller readsToken readsOther readsFlag readsItems isView member view bytes flag inSet pausedNumber signedNumber initialisedNumber notOwnerNumber ownerNumber insider notInsiderNumber sharedNumber amountNumber maxVaultDeposit depositAmountNumber approvedNumber limitNumber capNumber fundsNumber verdict chain orElse all _and_ _or_ bias amountAt putAmount put le
 fee-9 z = record { formed = refl; changes = refl; number = refl; value-is = refl; count-is = refl }
 
 pub fee-10 : (z : List ℕ) → Refuses (paperBytes z) (depositsWithFee 10 10) 3
-unfolding imageOf request requestOf depositsWithFee depositWithFeeOutcome feeNumber grossNumber depositOutcome depositChecks fundingNumber receiveNumber expectedNumber absentNumber arrives debited received transferNumber transferOf recordBalance snapshotNumber outcomeOf formNumber headExceeds itemsExceed itemsWithin readsCaller readsToken readsOther readsFlag readsItems isView Rattle.record.specs.Form.member view bytes flag Rattle.checks.specs.Checks.member pausedNumber signedNumber initialisedNumber notOwnerNumber ownerNumber insider notInsiderNumber sharedNumber amountNumber maxVaultDeposit depositAmountNumber approvedNumber limitNumber capNumber fundsNumber verdict chain orElse all _and_ _or_ bias amountAt putAmount put le
+unfolding imageOf request requestOf depositsWithFee depositWithFeeOutcome feeNumber grossNumber depositOutcome depositChecks fundingNumber receiveNumber expectedNumber absentNumber arrives debited received transferNumber transferOf recordBalance snapshotNumber outcomeOf formNumber headExceeds itemsExceed itemsWithin readsCaller readsToken readsOther readsFlag readsItems isView member view bytes flag inSet pausedNumber signedNumber initialisedNumber notOwnerNumber ownerNumber insider notInsiderNumber sharedNumber amountNumber maxVaultDeposit depositAmountNumber approvedNumber limitNumber capNumber fundsNumber verdict chain orElse all _and_ _or_ bias amountAt putAmount put le
 fee-10 z = record { formed = refl; number = refl }
 
 pub paused : (z : List ℕ) → Accepts (paperBytes z) (pauses) 0 1
-unfolding imageOf request requestOf pauseOutcome pauseNumber alreadyPausedNumber outcomeOf formNumber headExceeds itemsExceed itemsWithin readsCaller readsToken readsOther readsFlag readsItems isView Rattle.record.specs.Form.member view bytes flag Rattle.checks.specs.Checks.member pausedNumber signedNumber initialisedNumber notOwnerNumber ownerNumber insider notInsiderNumber sharedNumber amountNumber maxVaultDeposit depositAmountNumber approvedNumber limitNumber capNumber fundsNumber verdict chain orElse all _and_ _or_ bias amountAt putAmount put le
+unfolding imageOf request requestOf pauseOutcome pauseNumber alreadyPausedNumber outcomeOf formNumber headExceeds itemsExceed itemsWithin readsCaller readsToken readsOther readsFlag readsItems isView member view bytes flag inSet pausedNumber signedNumber initialisedNumber notOwnerNumber ownerNumber insider notInsiderNumber sharedNumber amountNumber maxVaultDeposit depositAmountNumber approvedNumber limitNumber capNumber fundsNumber verdict chain orElse all _and_ _or_ bias amountAt putAmount put le
 paused z = record { formed = refl; changes = refl; number = refl; value-is = refl; count-is = refl }
 
 pub fee-10-paused : (z : List ℕ) → Refuses (outcomeOf (paperBytes z) pauses .image) (depositsWithFee 10 10) 3
-unfolding imageOf request requestOf pauseOutcome pauseNumber alreadyPausedNumber depositsWithFee depositWithFeeOutcome feeNumber grossNumber depositOutcome depositChecks fundingNumber receiveNumber expectedNumber absentNumber arrives debited received transferNumber transferOf recordBalance snapshotNumber outcomeOf formNumber headExceeds itemsExceed itemsWithin readsCaller readsToken readsOther readsFlag readsItems isView Rattle.record.specs.Form.member view bytes flag Rattle.checks.specs.Checks.member pausedNumber signedNumber initialisedNumber notOwnerNumber ownerNumber insider notInsiderNumber sharedNumber amountNumber maxVaultDeposit depositAmountNumber approvedNumber limitNumber capNumber fundsNumber verdict chain orElse all _and_ _or_ bias amountAt putAmount put le
+unfolding imageOf request requestOf pauseOutcome pauseNumber alreadyPausedNumber depositsWithFee depositWithFeeOutcome feeNumber grossNumber depositOutcome depositChecks fundingNumber receiveNumber expectedNumber absentNumber arrives debited received transferNumber transferOf recordBalance snapshotNumber outcomeOf formNumber headExceeds itemsExceed itemsWithin readsCaller readsToken readsOther readsFlag readsItems isView member view bytes flag inSet pausedNumber signedNumber initialisedNumber notOwnerNumber ownerNumber insider notInsiderNumber sharedNumber amountNumber maxVaultDeposit depositAmountNumber approvedNumber limitNumber capNumber fundsNumber verdict chain orElse all _and_ _or_ bias amountAt putAmount put le
 fee-10-paused z = record { formed = refl; number = refl }
 
 pub proposed : (z : List ℕ) → Accepts (paperBytes z) (proposes 3) 0 1
-unfolding imageOf request requestOf proposes proposeOutcome proposeNumber newOwnerNumber outcomeOf formNumber headExceeds itemsExceed itemsWithin readsCaller readsToken readsOther readsFlag readsItems isView Rattle.record.specs.Form.member view bytes flag Rattle.checks.specs.Checks.member pausedNumber signedNumber initialisedNumber notOwnerNumber ownerNumber insider notInsiderNumber sharedNumber amountNumber maxVaultDeposit depositAmountNumber approvedNumber limitNumber capNumber fundsNumber verdict chain orElse all _and_ _or_ bias amountAt putAmount put le
+unfolding imageOf request requestOf proposes proposeOutcome proposeNumber newOwnerNumber outcomeOf formNumber headExceeds itemsExceed itemsWithin readsCaller readsToken readsOther readsFlag readsItems isView member view bytes flag inSet pausedNumber signedNumber initialisedNumber notOwnerNumber ownerNumber insider notInsiderNumber sharedNumber amountNumber maxVaultDeposit depositAmountNumber approvedNumber limitNumber capNumber fundsNumber verdict chain orElse all _and_ _or_ bias amountAt putAmount put le
 proposed z = record { formed = refl; changes = refl; number = refl; value-is = refl; count-is = refl }
 
 pub accepted-604799 : (z : List ℕ) → Accepts (outcomeOf (paperBytes z) (proposes 3) .image) (acceptsAt 3 604799) 0 1
-unfolding imageOf request requestOf proposes proposeOutcome proposeNumber newOwnerNumber acceptsAt acceptOutcome acceptNumber pendingNumber expiredNumber outcomeOf formNumber headExceeds itemsExceed itemsWithin readsCaller readsToken readsOther readsFlag readsItems isView Rattle.record.specs.Form.member view bytes flag Rattle.checks.specs.Checks.member pausedNumber signedNumber initialisedNumber notOwnerNumber ownerNumber insider notInsiderNumber sharedNumber amountNumber maxVaultDeposit depositAmountNumber approvedNumber limitNumber capNumber fundsNumber verdict chain orElse all _and_ _or_ bias amountAt putAmount put le
+unfolding imageOf request requestOf proposes proposeOutcome proposeNumber newOwnerNumber acceptsAt acceptOutcome acceptNumber pendingNumber expiredNumber outcomeOf formNumber headExceeds itemsExceed itemsWithin readsCaller readsToken readsOther readsFlag readsItems isView member view bytes flag inSet pausedNumber signedNumber initialisedNumber notOwnerNumber ownerNumber insider notInsiderNumber sharedNumber amountNumber maxVaultDeposit depositAmountNumber approvedNumber limitNumber capNumber fundsNumber verdict chain orElse all _and_ _or_ bias amountAt putAmount put le
 accepted-604799 z = record { formed = refl; changes = refl; number = refl; value-is = refl; count-is = refl }
 
 pub accepted-604800 : (z : List ℕ) → Refuses (outcomeOf (paperBytes z) (proposes 3) .image) (acceptsAt 3 604800) 16
-unfolding imageOf request requestOf proposes proposeOutcome proposeNumber newOwnerNumber acceptsAt acceptOutcome acceptNumber pendingNumber expiredNumber outcomeOf formNumber headExceeds itemsExceed itemsWithin readsCaller readsToken readsOther readsFlag readsItems isView Rattle.record.specs.Form.member view bytes flag Rattle.checks.specs.Checks.member pausedNumber signedNumber initialisedNumber notOwnerNumber ownerNumber insider notInsiderNumber sharedNumber amountNumber maxVaultDeposit depositAmountNumber approvedNumber limitNumber capNumber fundsNumber verdict chain orElse all _and_ _or_ bias amountAt putAmount put le
+unfolding imageOf request requestOf proposes proposeOutcome proposeNumber newOwnerNumber acceptsAt acceptOutcome acceptNumber pendingNumber expiredNumber outcomeOf formNumber headExceeds itemsExceed itemsWithin readsCaller readsToken readsOther readsFlag readsItems isView member view bytes flag inSet pausedNumber signedNumber initialisedNumber notOwnerNumber ownerNumber insider notInsiderNumber sharedNumber amountNumber maxVaultDeposit depositAmountNumber approvedNumber limitNumber capNumber fundsNumber verdict chain orElse all _and_ _or_ bias amountAt putAmount put le
 accepted-604800 z = record { formed = refl; number = refl }
 
 pub initiated : (z : List ℕ) → Accepts (paperBytes z) (initiates 4) 0 1
-unfolding imageOf request requestOf initiates initiateOutcome initiateNumber proposalNumber outcomeOf formNumber headExceeds itemsExceed itemsWithin readsCaller readsToken readsOther readsFlag readsItems isView Rattle.record.specs.Form.member view bytes flag Rattle.checks.specs.Checks.member pausedNumber signedNumber initialisedNumber notOwnerNumber ownerNumber insider notInsiderNumber sharedNumber amountNumber maxVaultDeposit depositAmountNumber approvedNumber limitNumber capNumber fundsNumber verdict chain orElse all _and_ _or_ bias amountAt putAmount put le
+unfolding imageOf request requestOf initiates initiateOutcome initiateNumber proposalNumber outcomeOf formNumber headExceeds itemsExceed itemsWithin readsCaller readsToken readsOther readsFlag readsItems isView member view bytes flag inSet pausedNumber signedNumber initialisedNumber notOwnerNumber ownerNumber insider notInsiderNumber sharedNumber amountNumber maxVaultDeposit depositAmountNumber approvedNumber limitNumber capNumber fundsNumber verdict chain orElse all _and_ _or_ bias amountAt putAmount put le
 initiated z = record { formed = refl; changes = refl; number = refl; value-is = refl; count-is = refl }
 
 pub executed-172799 : (z : List ℕ) → Refuses (outcomeOf (paperBytes z) (initiates 4) .image) (executesAt 172799) 20
-unfolding imageOf request requestOf initiates initiateOutcome initiateNumber proposalNumber executesAt executeOutcome executeNumber executeChecks noMigrationNumber earlyNumber migrateNumber migrateHolding clearMigration absentNumber arrives debited received transferNumber transferOf outcomeOf formNumber headExceeds itemsExceed itemsWithin readsCaller readsToken readsOther readsFlag readsItems isView Rattle.record.specs.Form.member view bytes flag Rattle.checks.specs.Checks.member pausedNumber signedNumber initialisedNumber notOwnerNumber ownerNumber insider notInsiderNumber sharedNumber amountNumber maxVaultDeposit depositAmountNumber approvedNumber limitNumber capNumber fundsNumber verdict chain orElse all _and_ _or_ bias amountAt putAmount put le
+unfolding imageOf request requestOf initiates initiateOutcome initiateNumber proposalNumber executesAt executeOutcome executeNumber executeChecks noMigrationNumber earlyNumber migrateNumber migrateHolding clearMigration absentNumber arrives debited received transferNumber transferOf outcomeOf formNumber headExceeds itemsExceed itemsWithin readsCaller readsToken readsOther readsFlag readsItems isView member view bytes flag inSet pausedNumber signedNumber initialisedNumber notOwnerNumber ownerNumber insider notInsiderNumber sharedNumber amountNumber maxVaultDeposit depositAmountNumber approvedNumber limitNumber capNumber fundsNumber verdict chain orElse all _and_ _or_ bias amountAt putAmount put le
 executed-172799 z = record { formed = refl; number = refl }
 
 pub initiated-paused : (z : List ℕ) → Accepts (outcomeOf (paperBytes z) (initiates 4) .image) (pauses) 0 1
-unfolding imageOf request requestOf initiates initiateOutcome initiateNumber proposalNumber pauseOutcome pauseNumber alreadyPausedNumber outcomeOf formNumber headExceeds itemsExceed itemsWithin readsCaller readsToken readsOther readsFlag readsItems isView Rattle.record.specs.Form.member view bytes flag Rattle.checks.specs.Checks.member pausedNumber signedNumber initialisedNumber notOwnerNumber ownerNumber insider notInsiderNumber sharedNumber amountNumber maxVaultDeposit depositAmountNumber approvedNumber limitNumber capNumber fundsNumber verdict chain orElse all _and_ _or_ bias amountAt putAmount put le
+unfolding imageOf request requestOf initiates initiateOutcome initiateNumber proposalNumber pauseOutcome pauseNumber alreadyPausedNumber outcomeOf formNumber headExceeds itemsExceed itemsWithin readsCaller readsToken readsOther readsFlag readsItems isView member view bytes flag inSet pausedNumber signedNumber initialisedNumber notOwnerNumber ownerNumber insider notInsiderNumber sharedNumber amountNumber maxVaultDeposit depositAmountNumber approvedNumber limitNumber capNumber fundsNumber verdict chain orElse all _and_ _or_ bias amountAt putAmount put le
 initiated-paused z = record { formed = refl; changes = refl; number = refl; value-is = refl; count-is = refl }
 
 pub executed : (z : List ℕ) → Accepts (outcomeOf (paperBytes z) (initiates 4) .image) (executesAt 172800) 100 1
-unfolding imageOf request requestOf initiates initiateOutcome initiateNumber proposalNumber executesAt executeOutcome executeNumber executeChecks noMigrationNumber earlyNumber migrateNumber migrateHolding clearMigration absentNumber arrives debited received transferNumber transferOf outcomeOf formNumber headExceeds itemsExceed itemsWithin readsCaller readsToken readsOther readsFlag readsItems isView Rattle.record.specs.Form.member view bytes flag Rattle.checks.specs.Checks.member pausedNumber signedNumber initialisedNumber notOwnerNumber ownerNumber insider notInsiderNumber sharedNumber amountNumber maxVaultDeposit depositAmountNumber approvedNumber limitNumber capNumber fundsNumber verdict chain orElse all _and_ _or_ bias amountAt putAmount put le
+unfolding imageOf request requestOf initiates initiateOutcome initiateNumber proposalNumber executesAt executeOutcome executeNumber executeChecks noMigrationNumber earlyNumber migrateNumber migrateHolding clearMigration absentNumber arrives debited received transferNumber transferOf outcomeOf formNumber headExceeds itemsExceed itemsWithin readsCaller readsToken readsOther readsFlag readsItems isView member view bytes flag inSet pausedNumber signedNumber initialisedNumber notOwnerNumber ownerNumber insider notInsiderNumber sharedNumber amountNumber maxVaultDeposit depositAmountNumber approvedNumber limitNumber capNumber fundsNumber verdict chain orElse all _and_ _or_ bias amountAt putAmount put le
 executed z = record { formed = refl; changes = refl; number = refl; value-is = refl; count-is = refl }
 
 pub executed-paused : (z : List ℕ) → Accepts (outcomeOf (outcomeOf (paperBytes z) (initiates 4) .image) pauses .image) (executesAt 172800) 100 1
-unfolding imageOf request requestOf initiates initiateOutcome initiateNumber proposalNumber pauseOutcome pauseNumber alreadyPausedNumber executesAt executeOutcome executeNumber executeChecks noMigrationNumber earlyNumber migrateNumber migrateHolding clearMigration absentNumber arrives debited received transferNumber transferOf outcomeOf formNumber headExceeds itemsExceed itemsWithin readsCaller readsToken readsOther readsFlag readsItems isView Rattle.record.specs.Form.member view bytes flag Rattle.checks.specs.Checks.member pausedNumber signedNumber initialisedNumber notOwnerNumber ownerNumber insider notInsiderNumber sharedNumber amountNumber maxVaultDeposit depositAmountNumber approvedNumber limitNumber capNumber fundsNumber verdict chain orElse all _and_ _or_ bias amountAt putAmount put le
+unfolding imageOf request requestOf initiates initiateOutcome initiateNumber proposalNumber pauseOutcome pauseNumber alreadyPausedNumber executesAt executeOutcome executeNumber executeChecks noMigrationNumber earlyNumber migrateNumber migrateHolding clearMigration absentNumber arrives debited received transferNumber transferOf outcomeOf formNumber headExceeds itemsExceed itemsWithin readsCaller readsToken readsOther readsFlag readsItems isView member view bytes flag inSet pausedNumber signedNumber initialisedNumber notOwnerNumber ownerNumber insider notInsiderNumber sharedNumber amountNumber maxVaultDeposit depositAmountNumber approvedNumber limitNumber capNumber fundsNumber verdict chain orElse all _and_ _or_ bias amountAt putAmount put le
 executed-paused z = record { formed = refl; changes = refl; number = refl; value-is = refl; count-is = refl }
 
 pub deposits-10 : (z : List ℕ) → Accepts (paperBytes z) (depositsIn 7 10) 0 1
-unfolding imageOf request requestOf depositsIn depositOutcome depositChecks fundingNumber receiveNumber expectedNumber absentNumber arrives debited received transferNumber transferOf recordBalance snapshotNumber outcomeOf formNumber headExceeds itemsExceed itemsWithin readsCaller readsToken readsOther readsFlag readsItems isView Rattle.record.specs.Form.member view bytes flag Rattle.checks.specs.Checks.member pausedNumber signedNumber initialisedNumber notOwnerNumber ownerNumber insider notInsiderNumber sharedNumber amountNumber maxVaultDeposit depositAmountNumber approvedNumber limitNumber capNumber fundsNumber verdict chain orElse all _and_ _or_ bias amountAt putAmount put le
+unfolding imageOf request requestOf depositsIn depositOutcome depositChecks fundingNumber receiveNumber expectedNumber absentNumber arrives debited received transferNumber transferOf recordBalance snapshotNumber outcomeOf formNumber headExceeds itemsExceed itemsWithin readsCaller readsToken readsOther readsFlag readsItems isView member view bytes flag inSet pausedNumber signedNumber initialisedNumber notOwnerNumber ownerNumber insider notInsiderNumber sharedNumber amountNumber maxVaultDeposit depositAmountNumber approvedNumber limitNumber capNumber fundsNumber verdict chain orElse all _and_ _or_ bias amountAt putAmount put le
 deposits-10 z = record { formed = refl; changes = refl; number = refl; value-is = refl; count-is = refl }
 
 pub then-initiated : (z : List ℕ) → Accepts (depositedBytes z) (initiates 4) 0 1
-unfolding imageOf request requestOf initiates initiateOutcome initiateNumber proposalNumber outcomeOf formNumber headExceeds itemsExceed itemsWithin readsCaller readsToken readsOther readsFlag readsItems isView Rattle.record.specs.Form.member view bytes flag Rattle.checks.specs.Checks.member pausedNumber signedNumber initialisedNumber notOwnerNumber ownerNumber insider notInsiderNumber sharedNumber amountNumber maxVaultDeposit depositAmountNumber approvedNumber limitNumber capNumber fundsNumber verdict chain orElse all _and_ _or_ bias amountAt putAmount put le
+unfolding imageOf request requestOf initiates initiateOutcome initiateNumber proposalNumber outcomeOf formNumber headExceeds itemsExceed itemsWithin readsCaller readsToken readsOther readsFlag readsItems isView member view bytes flag inSet pausedNumber signedNumber initialisedNumber notOwnerNumber ownerNumber insider notInsiderNumber sharedNumber amountNumber maxVaultDeposit depositAmountNumber approvedNumber limitNumber capNumber fundsNumber verdict chain orElse all _and_ _or_ bias amountAt putAmount put le
 then-initiated z = record { formed = refl; changes = refl; number = refl; value-is = refl; count-is = refl }
 
 pub then-executed : (z : List ℕ) → Accepts (outcomeOf (depositedBytes z) (initiates 4) .image) (executesAt 172800) 110 1
-unfolding imageOf request requestOf absentNumber arrives debited received transferNumber transferOf initiates initiateOutcome initiateNumber proposalNumber executesAt executeOutcome executeNumber executeChecks noMigrationNumber earlyNumber migrateNumber migrateHolding clearMigration outcomeOf formNumber headExceeds itemsExceed itemsWithin readsCaller readsToken readsOther readsFlag readsItems isView Rattle.record.specs.Form.member view bytes flag Rattle.checks.specs.Checks.member pausedNumber signedNumber initialisedNumber notOwnerNumber ownerNumber insider notInsiderNumber sharedNumber amountNumber maxVaultDeposit depositAmountNumber approvedNumber limitNumber capNumber fundsNumber verdict chain orElse all _and_ _or_ bias amountAt putAmount put le
+unfolding imageOf request requestOf absentNumber arrives debited received transferNumber transferOf initiates initiateOutcome initiateNumber proposalNumber executesAt executeOutcome executeNumber executeChecks noMigrationNumber earlyNumber migrateNumber migrateHolding clearMigration outcomeOf formNumber headExceeds itemsExceed itemsWithin readsCaller readsToken readsOther readsFlag readsItems isView member view bytes flag inSet pausedNumber signedNumber initialisedNumber notOwnerNumber ownerNumber insider notInsiderNumber sharedNumber amountNumber maxVaultDeposit depositAmountNumber approvedNumber limitNumber capNumber fundsNumber verdict chain orElse all _and_ _or_ bias amountAt putAmount put le
 then-executed z = record { formed = refl; changes = refl; number = refl; value-is = refl; count-is = refl }
 
 pub deposits-again : (z : List ℕ) → Refuses (migratedBytes z) (depositsIn 7 10) 10
-unfolding imageOf request requestOf depositsIn depositOutcome depositChecks fundingNumber receiveNumber expectedNumber absentNumber arrives debited received transferNumber transferOf recordBalance snapshotNumber outcomeOf formNumber headExceeds itemsExceed itemsWithin readsCaller readsToken readsOther readsFlag readsItems isView Rattle.record.specs.Form.member view bytes flag Rattle.checks.specs.Checks.member pausedNumber signedNumber initialisedNumber notOwnerNumber ownerNumber insider notInsiderNumber sharedNumber amountNumber maxVaultDeposit depositAmountNumber approvedNumber limitNumber capNumber fundsNumber verdict chain orElse all _and_ _or_ bias amountAt putAmount put le
+unfolding imageOf request requestOf depositsIn depositOutcome depositChecks fundingNumber receiveNumber expectedNumber absentNumber arrives debited received transferNumber transferOf recordBalance snapshotNumber outcomeOf formNumber headExceeds itemsExceed itemsWithin readsCaller readsToken readsOther readsFlag readsItems isView member view bytes flag inSet pausedNumber signedNumber initialisedNumber notOwnerNumber ownerNumber insider notInsiderNumber sharedNumber amountNumber maxVaultDeposit depositAmountNumber approvedNumber limitNumber capNumber fundsNumber verdict chain orElse all _and_ _or_ bias amountAt putAmount put le
 deposits-again z = record { formed = refl; number = refl }
 
 pub deposits-next : (z : List ℕ) → Accepts (migratedBytes z) (depositsIn 8 10) 0 1
-unfolding imageOf request requestOf depositsIn depositOutcome depositChecks fundingNumber receiveNumber expectedNumber absentNumber arrives debited received transferNumber transferOf recordBalance snapshotNumber outcomeOf formNumber headExceeds itemsExceed itemsWithin readsCaller readsToken readsOther readsFlag readsItems isView Rattle.record.specs.Form.member view bytes flag Rattle.checks.specs.Checks.member pausedNumber signedNumber initialisedNumber notOwnerNumber ownerNumber insider notInsiderNumber sharedNumber amountNumber maxVaultDeposit depositAmountNumber approvedNumber limitNumber capNumber fundsNumber verdict chain orElse all _and_ _or_ bias amountAt putAmount put le
+unfolding imageOf request requestOf depositsIn depositOutcome depositChecks fundingNumber receiveNumber expectedNumber absentNumber arrives debited received transferNumber transferOf recordBalance snapshotNumber outcomeOf formNumber headExceeds itemsExceed itemsWithin readsCaller readsToken readsOther readsFlag readsItems isView member view bytes flag inSet pausedNumber signedNumber initialisedNumber notOwnerNumber ownerNumber insider notInsiderNumber sharedNumber amountNumber maxVaultDeposit depositAmountNumber approvedNumber limitNumber capNumber fundsNumber verdict chain orElse all _and_ _or_ bias amountAt putAmount put le
 deposits-next z = record { formed = refl; changes = refl; number = refl; value-is = refl; count-is = refl }
 
 pub compliant-2 : (z : List ℕ) → Refuses (paperBytes z) (asksCompliance 2) 22
-unfolding imageOf request requestOf asksCompliance compliantOutcome compliantNumber absentNumber outcomeOf formNumber headExceeds itemsExceed itemsWithin readsCaller readsToken readsOther readsFlag readsItems isView Rattle.record.specs.Form.member view bytes flag Rattle.checks.specs.Checks.member pausedNumber signedNumber initialisedNumber notOwnerNumber ownerNumber insider notInsiderNumber sharedNumber amountNumber maxVaultDeposit depositAmountNumber approvedNumber limitNumber capNumber fundsNumber verdict chain orElse all _and_ _or_ bias amountAt putAmount put le
+unfolding imageOf request requestOf asksCompliance compliantOutcome compliantNumber absentNumber outcomeOf formNumber headExceeds itemsExceed itemsWithin readsCaller readsToken readsOther readsFlag readsItems isView member view bytes flag inSet pausedNumber signedNumber initialisedNumber notOwnerNumber ownerNumber insider notInsiderNumber sharedNumber amountNumber maxVaultDeposit depositAmountNumber approvedNumber limitNumber capNumber fundsNumber verdict chain orElse all _and_ _or_ bias amountAt putAmount put le
 compliant-2 z = record { formed = refl; number = refl }
 
 pub deposits-1 : (z : List ℕ) → Accepts (paperBytes z) (deposits 1) 0 1
-unfolding imageOf request requestOf depositOutcome depositChecks fundingNumber receiveNumber expectedNumber absentNumber arrives debited received transferNumber transferOf recordBalance snapshotNumber outcomeOf formNumber headExceeds itemsExceed itemsWithin readsCaller readsToken readsOther readsFlag readsItems isView Rattle.record.specs.Form.member view bytes flag Rattle.checks.specs.Checks.member pausedNumber signedNumber initialisedNumber notOwnerNumber ownerNumber insider notInsiderNumber sharedNumber amountNumber maxVaultDeposit depositAmountNumber approvedNumber limitNumber capNumber fundsNumber verdict chain orElse all _and_ _or_ bias amountAt putAmount put le
+unfolding imageOf request requestOf depositOutcome depositChecks fundingNumber receiveNumber expectedNumber absentNumber arrives debited received transferNumber transferOf recordBalance snapshotNumber outcomeOf formNumber headExceeds itemsExceed itemsWithin readsCaller readsToken readsOther readsFlag readsItems isView member view bytes flag inSet pausedNumber signedNumber initialisedNumber notOwnerNumber ownerNumber insider notInsiderNumber sharedNumber amountNumber maxVaultDeposit depositAmountNumber approvedNumber limitNumber capNumber fundsNumber verdict chain orElse all _and_ _or_ bias amountAt putAmount put le
 deposits-1 z = record { formed = refl; changes = refl; number = refl; value-is = refl; count-is = refl }
 
 pub deposits-token-1 : Refuses (paperBytes creditFull) (depositsToken 1) 6
-unfolding imageOf request requestOf creditFull credited depositsToken expectedNumber depositTokenOutcome tokenChecks tokenFundingNumber tokenCapNumber receiveTokenNumber overflowNumber creditedNumber absentNumber arrives debited received transferNumber transferOf recordBalance snapshotNumber outcomeOf formNumber headExceeds itemsExceed itemsWithin readsCaller readsToken readsOther readsFlag readsItems isView Rattle.record.specs.Form.member view bytes flag Rattle.checks.specs.Checks.member pausedNumber signedNumber initialisedNumber notOwnerNumber ownerNumber insider notInsiderNumber sharedNumber amountNumber maxVaultDeposit depositAmountNumber approvedNumber limitNumber capNumber fundsNumber verdict chain orElse all _and_ _or_ bias amountAt putAmount put le
+unfolding imageOf request requestOf creditFull credited depositsToken expectedNumber depositTokenOutcome tokenChecks tokenFundingNumber tokenCapNumber receiveTokenNumber overflowNumber creditedNumber absentNumber arrives debited received transferNumber transferOf recordBalance snapshotNumber outcomeOf formNumber headExceeds itemsExceed itemsWithin readsCaller readsToken readsOther readsFlag readsItems isView member view bytes flag inSet pausedNumber signedNumber initialisedNumber notOwnerNumber ownerNumber insider notInsiderNumber sharedNumber amountNumber maxVaultDeposit depositAmountNumber approvedNumber limitNumber capNumber fundsNumber verdict chain orElse all _and_ _or_ bias amountAt putAmount put le
 deposits-token-1 = record { formed = refl; number = refl }
 
 pub limit-99 : (z : List ℕ) → Refuses (paperBytes z) (setsLimit 5 99) 5
-unfolding imageOf request requestOf limitSetOutcome limitSetNumber belowHoldingNumber limitRoleNumber outcomeOf formNumber headExceeds itemsExceed itemsWithin readsCaller readsToken readsOther readsFlag readsItems isView Rattle.record.specs.Form.member view bytes flag Rattle.checks.specs.Checks.member pausedNumber signedNumber initialisedNumber notOwnerNumber ownerNumber insider notInsiderNumber sharedNumber amountNumber maxVaultDeposit depositAmountNumber approvedNumber limitNumber capNumber fundsNumber verdict chain orElse all _and_ _or_ bias amountAt putAmount put le
+unfolding imageOf request requestOf limitSetOutcome limitSetNumber belowHoldingNumber limitRoleNumber outcomeOf formNumber headExceeds itemsExceed itemsWithin readsCaller readsToken readsOther readsFlag readsItems isView member view bytes flag inSet pausedNumber signedNumber initialisedNumber notOwnerNumber ownerNumber insider notInsiderNumber sharedNumber amountNumber maxVaultDeposit depositAmountNumber approvedNumber limitNumber capNumber fundsNumber verdict chain orElse all _and_ _or_ bias amountAt putAmount put le
 limit-99 z = record { formed = refl; number = refl }
 
 pub limit-100 : (z : List ℕ) → Refuses (paperBytes z) (setsLimit 5 100) 2
-unfolding imageOf request requestOf limitSetOutcome limitSetNumber belowHoldingNumber limitRoleNumber outcomeOf formNumber headExceeds itemsExceed itemsWithin readsCaller readsToken readsOther readsFlag readsItems isView Rattle.record.specs.Form.member view bytes flag Rattle.checks.specs.Checks.member pausedNumber signedNumber initialisedNumber notOwnerNumber ownerNumber insider notInsiderNumber sharedNumber amountNumber maxVaultDeposit depositAmountNumber approvedNumber limitNumber capNumber fundsNumber verdict chain orElse all _and_ _or_ bias amountAt putAmount put le
+unfolding imageOf request requestOf limitSetOutcome limitSetNumber belowHoldingNumber limitRoleNumber outcomeOf formNumber headExceeds itemsExceed itemsWithin readsCaller readsToken readsOther readsFlag readsItems isView member view bytes flag inSet pausedNumber signedNumber initialisedNumber notOwnerNumber ownerNumber insider notInsiderNumber sharedNumber amountNumber maxVaultDeposit depositAmountNumber approvedNumber limitNumber capNumber fundsNumber verdict chain orElse all _and_ _or_ bias amountAt putAmount put le
 limit-100 z = record { formed = refl; number = refl }
 
 pub pays-5 : (z : List ℕ) → Accepts (paperBytes z) (paysTo 4 5) 0 1
-unfolding imageOf request requestOf paysTo withdrawOutcome withdrawNumber payoutsNumber payNumber payImage remainingNumber withdrawChecks itemsSum itemsNumber itemNumber noItemNumber items payoutsEvents payoutsImage absentNumber arrives debited received transferNumber transferOf recordBalance snapshotNumber outcomeOf formNumber headExceeds itemsExceed itemsWithin readsCaller readsToken readsOther readsFlag readsItems isView Rattle.record.specs.Form.member view bytes flag Rattle.checks.specs.Checks.member pausedNumber signedNumber initialisedNumber notOwnerNumber ownerNumber insider notInsiderNumber sharedNumber amountNumber maxVaultDeposit depositAmountNumber approvedNumber limitNumber capNumber fundsNumber verdict chain orElse all _and_ _or_ bias amountAt putAmount put le
+unfolding imageOf request requestOf paysTo withdrawOutcome withdrawNumber payoutsNumber payNumber payImage remainingNumber withdrawChecks itemsSum itemsNumber itemNumber noItemNumber items payoutsEvents payoutsImage absentNumber arrives debited received transferNumber transferOf recordBalance snapshotNumber outcomeOf formNumber headExceeds itemsExceed itemsWithin readsCaller readsToken readsOther readsFlag readsItems isView member view bytes flag inSet pausedNumber signedNumber initialisedNumber notOwnerNumber ownerNumber insider notInsiderNumber sharedNumber amountNumber maxVaultDeposit depositAmountNumber approvedNumber limitNumber capNumber fundsNumber verdict chain orElse all _and_ _or_ bias amountAt putAmount put le
 pays-5 z = record { formed = refl; changes = refl; number = refl; value-is = refl; count-is = refl }
 
 pub compliant-0 : (z : List ℕ) → Views (paperBytes z) (asksCompliance 0) 0
-unfolding imageOf request requestOf asksCompliance compliantOutcome compliantNumber absentNumber outcomeOf formNumber headExceeds itemsExceed itemsWithin readsCaller readsToken readsOther readsFlag readsItems isView Rattle.record.specs.Form.member view bytes verdict chain orElse all _and_ _or_ bias amountAt putAmount put le
+unfolding imageOf request requestOf asksCompliance compliantOutcome compliantNumber absentNumber outcomeOf formNumber headExceeds itemsExceed itemsWithin readsCaller readsToken readsOther readsFlag readsItems isView member view bytes verdict chain orElse all _and_ _or_ bias amountAt putAmount put le
 compliant-0 z = record { formed = refl; looks = refl; number = refl; value-is = refl; count-is = refl }
 
 pub compliant-48 : (z : List ℕ) → Views (paperBytes z) (asksCompliance 48) 1
-unfolding imageOf request requestOf asksCompliance compliantOutcome compliantNumber absentNumber outcomeOf formNumber headExceeds itemsExceed itemsWithin readsCaller readsToken readsOther readsFlag readsItems isView Rattle.record.specs.Form.member view bytes verdict chain orElse all _and_ _or_ bias amountAt putAmount put le
+unfolding imageOf request requestOf asksCompliance compliantOutcome compliantNumber absentNumber outcomeOf formNumber headExceeds itemsExceed itemsWithin readsCaller readsToken readsOther readsFlag readsItems isView member view bytes verdict chain orElse all _and_ _or_ bias amountAt putAmount put le
 compliant-48 z = record { formed = refl; looks = refl; number = refl; value-is = refl; count-is = refl }
 
 -- ---- images after an operation

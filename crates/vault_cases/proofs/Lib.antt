@@ -1,3 +1,4 @@
+-- The table of cases, proved.
 pub mod Runs
 pub mod Flat
 pub mod Computed

@@ -1,1 +1,2 @@
+-- Definitions of the views.
 pub mod Views

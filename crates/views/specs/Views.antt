@@ -3,20 +3,16 @@ use mathlib.Core.List.{List, [], _∷_}
 use Prim.Native.Nat.{ℕ, _-_, min}
 use lib.Dec.{eqb, ltb}
 use Rattle.outcome.specs.Outcome.{Outcome, views}
-use Rattle.checks.specs.Checks.{member, flag, operatorLimitBit, pausedNumber, initialisedNumber, insider}
+use Rattle.checks.specs.Checks.{inSet, flag, operatorLimitBit, pausedNumber, initialisedNumber, insider}
 use Rattle.record.specs.Record.{callerOf, tokenOf}
-use Rattle.token.specs.Token.{absentNumber}
-use Rattle.image.specs.Layout.{slot, owner, defaultToken, approvedSet, operatorLimit, holding, credit}
+use Rattle.token.specs.Token.{absentNumber, vaultBalance}
+use Rattle.image.specs.Layout.{slot, owner, approvedSet, operatorLimit, credit}
 use Rattle.amount.specs.Biased.{bias}
 use Rattle.fields.specs.Rules.{pick, eq, ne, Rule, when, verdict, chain}
 
--- the vault's holding of the default token
-abbrev pub vaultBalance : List ℕ → ℕ
-vaultBalance l = holding l (slot (defaultToken l)) 1 - bias
-
 -- ---- 24: 1
 unfoldable pub balanceOutcome : List ℕ → Outcome
-balanceOutcome l = views (initialisedNumber l) (vaultBalance l) l
+balanceOutcome l = views (initialisedNumber l) (vaultBalance l - bias) l
 
 abbrev pub balance : List ℕ → List ℕ → Outcome
 balance l r = balanceOutcome l
@@ -36,7 +32,7 @@ unfoldable pub effectiveNumber : List ℕ → ℕ → ℕ
 effectiveNumber l caller = chain (pausedNumber l ∷ initialisedNumber l ∷ withdrawCapNumber l caller ∷ [])
 
 unfoldable pub effectiveValue : List ℕ → ℕ → ℕ
-effectiveValue l caller = pick (eqb (owner l) caller) (vaultBalance l) (min (vaultBalance l) (operatorLimit l - bias))
+effectiveValue l caller = pick (eqb (owner l) caller) (vaultBalance l - bias) (min (vaultBalance l - bias) (operatorLimit l - bias))
 
 unfoldable pub effectiveOutcome : List ℕ → ℕ → Outcome
 effectiveOutcome l caller = views (effectiveNumber l caller) (effectiveValue l caller) l
@@ -56,7 +52,7 @@ getTokenAccountBalance l r = accountOutcome l (tokenOf r) (callerOf r)
 
 -- ---- 27
 unfoldable pub approvedOutcome : List ℕ → ℕ → Outcome
-approvedOutcome l t = views 0 (member (approvedSet l) t) l
+approvedOutcome l t = views 0 (inSet (approvedSet l) t) l
 
 abbrev pub isTokenApproved : List ℕ → List ℕ → Outcome
 isTokenApproved l r = approvedOutcome l (tokenOf r)

@@ -5,17 +5,10 @@ ghost use mathlib.Core.Path.{_≡_};
 ghost use Prim.Native.Nat.{ℕ, _+_, _<_, _≤_};
 ghost use lib.ListN.{length};
 ghost use Rattle.amount.specs.Biased.{bias, biased};
-ghost use Rattle.image.specs.Layout.{imageLength, initialised, slot, defaultToken, holding};
+ghost use Rattle.image.specs.Layout.{imageLength, initialised};
 ghost use Rattle.storage.specs.Facts.{Good};
 ghost use Rattle.outcome.specs.Outcome.{Views, Formed};
 ghost use Rattle.views.specs.Views.{balanceOutcome, balance, withdrawCapNumber, effectiveNumber, effectiveValue, effectiveOutcome, effectiveWithdrawLimit, accountBalance, accountOutcome, getTokenAccountBalance, approvedOutcome, isTokenApproved, compliantNumber, compliantOutcome, isTokenCompliant};
-
-fn vault_balance(img: &[u8]) -> Amount
-    requires { ⌜ Good (now img) × (initialised (now img) ≡ 1) ⌝ }
-    ensures { λ r. ⌜ biased r ≡ holding (now (img .entry)) (slot (defaultToken (now (img .entry)))) 1 ⌝ }
-{
-    token::balance(img, fields::get8(img, 3) as usize, 1)
-}
 
 pub fn balance(img: &[u8], rec: &[u8]) -> Answer
     requires { ⌜ Good (now img) × Formed 24 (now rec) ⌝ }
@@ -25,7 +18,7 @@ pub fn balance(img: &[u8], rec: &[u8]) -> Answer
     if k != 0 {
         return outcome::refuse(k);
     }
-    outcome::viewed(vault_balance(img))
+    outcome::viewed(token::vault_balance(img))
 }
 
 // 3, 6.
@@ -65,7 +58,7 @@ fn effective_value(img: &[u8], caller: u8) -> Amount
     requires { ⌜ Good (now img) × (initialised (now img) ≡ 1) ⌝ }
     ensures { λ r. ⌜ biased r ≡ bias + effectiveValue (now (img .entry)) caller ⌝ }
 {
-    let held = vault_balance(img);
+    let held = token::vault_balance(img);
     if fields::get8(img, 2) == caller {
         return held;
     }

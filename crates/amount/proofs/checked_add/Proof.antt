@@ -1,3 +1,4 @@
+-- `amount::checked_add` meets its contract.
 use native.Mathlib.Nat.{add-zero}
 use native.Mathlib.Omega.{arith}
 use mathlib.Core.Path.{_≡_, sym, ap, _∙_}

@@ -1,3 +1,4 @@
+-- `amount::checked_neg` meets its contract.
 use borrow.Author.Needs.{needs}
 use Rattle.amount.proofs.checked_neg.Statement.{statement}
 use Rattle.amount.proofs.checked_neg.Tie as tie

@@ -1,3 +1,4 @@
+-- `amount::from_u64` meets its contract.
 use mathlib.Core.Path.{refl}
 use Rattle.amount.specs.Biased.{biasedHigh}
 use Rattle.amount.specs.Laws.{biased-mid}

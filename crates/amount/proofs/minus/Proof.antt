@@ -1,3 +1,4 @@
+-- `amount::minus` meets its contract.
 use Rattle.amount.specs.Laws.{over-high, in-sum}
 use Rattle.amount.specs.Laws.{sum-biased, biased-below}
 use native.Mathlib.Omega.{arith}

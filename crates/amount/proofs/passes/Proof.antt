@@ -1,3 +1,4 @@
+-- `amount::passes` meets its contract.
 use Rattle.amount.specs.Laws.{over-high, in-sum}
 use native.Mathlib.Omega.{arith}
 use borrow.Author.Needs.{needs}

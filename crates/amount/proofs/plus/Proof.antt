@@ -1,3 +1,4 @@
+-- `amount::plus` meets its contract.
 use Rattle.amount.specs.Laws.{over-high, in-sum}
 use Rattle.amount.specs.Laws.{sum-biased}
 use native.Mathlib.Omega.{arith}

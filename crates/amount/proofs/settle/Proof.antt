@@ -1,3 +1,4 @@
+-- `amount::settle` meets its contract.
 use native.Mathlib.Omega.{arith}
 use mathlib.Core.Path.{_≡_, sym, ap, _∙_}
 use Prim.Native.Nat.{_+_, _-_, _*_, _^_, _/_, _%_, _<_, _≤_}

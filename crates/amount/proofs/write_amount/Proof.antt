@@ -1,3 +1,4 @@
+-- `amount::write_amount` meets its contract.
 use Rattle.amount.specs.Laws.{biased-lo, biased-hi}
 use native.Mathlib.Omega.{arith}
 use mathlib.Core.Path.{_≡_, sym, ap, _∙_}

@@ -1,3 +1,4 @@
+-- `amount::zero` meets its contract.
 use Rattle.amount.specs.Biased.{biased, bias, biasedHigh}
 use mathlib.Core.Path.{refl}
 use borrow.Author.Needs.{needs}

@@ -1,5 +1,5 @@
 -- `batch_deposits::batch_deposit` meets its contract.
-use Rattle.record.specs.Laws.{count-below, item-below}
+use Rattle.outcome.specs.FormedLaws.{count-in, item-in}
 use Rattle.record.specs.Form.{readsItems, member}
 use mathlib.Core.Path.{refl}
 use native.Mathlib.Omega.{arith}
@@ -18,7 +18,7 @@ item-count-requires c κs = search needs
 
 batch-deposit-of-requires : tie.Need-batch-deposit-of-requires
 unfolding readsItems member
-batch-deposit-of-requires c κs = let s = c .before .before .before .before .before .before .before .before in let f = s .pre .1 in let n = count-below (s .args .rec .now) 4 (f .formed) (f .operation) refl in let e = c .item-count .ensures in ((s .pre .0, s .pre .2, f .long, omega arith), λ j h. item-below (s .args .rec .now) 4 (f .formed) (f .operation) refl j (omega arith))
+batch-deposit-of-requires c κs = let s = c .before .before .before .before .before .before .before .before in let f = s .pre .1 in let n = count-in f refl in let e = c .item-count .ensures in ((s .pre .0, s .pre .2, f .long, omega arith), λ j h. item-in f refl j (omega arith))
 
 same-length : tie.Need-same-length
 same-length c = search needs

@@ -1,3 +1,4 @@
+-- `checks::amount_check` meets its contract.
 use Rattle.checks.specs.Checks.{amountNumber}
 use Rattle.fields.specs.Rules.{stop-at}
 use native.Mathlib.Omega.{arith}

@@ -1,3 +1,4 @@
+-- `checks::approved_check` meets its contract.
 use Rattle.checks.specs.Checks.{approvedNumber}
 use Rattle.fields.specs.Rules.{stop-at}
 use native.Mathlib.Omega.{arith}

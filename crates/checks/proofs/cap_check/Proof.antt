@@ -1,3 +1,4 @@
+-- `checks::cap_check` meets its contract.
 use Rattle.checks.specs.Checks.{capNumber}
 use Rattle.fields.specs.Rules.{stop-at}
 use native.Mathlib.Omega.{arith}

@@ -1,3 +1,4 @@
+-- `checks::deposit_amount_check` meets its contract.
 use Rattle.checks.specs.Checks.{depositAmountNumber}
 use Rattle.fields.specs.Rules.{stop-at}
 use native.Mathlib.Omega.{arith}

@@ -1,3 +1,4 @@
+-- `checks::flag_of` meets its contract.
 use mathlib.Core.Path.{refl}
 use Rattle.checks.specs.Checks.{flag}
 use borrow.Author.Needs.{needs}

@@ -1,3 +1,4 @@
+-- `checks::funds_check` meets its contract.
 use Rattle.checks.specs.Checks.{fundsNumber}
 use Rattle.fields.specs.Rules.{stop-at}
 use native.Mathlib.Omega.{arith}

@@ -1,3 +1,4 @@
+-- `checks::initialised_check` meets its contract.
 use Rattle.checks.specs.Checks.{initialisedNumber}
 use Rattle.fields.specs.Rules.{stop-at}
 use native.Mathlib.Omega.{arith}

@@ -1,3 +1,4 @@
+-- `checks::insider_check` meets its contract.
 use Rattle.checks.specs.Checks.{notInsiderNumber}
 use Rattle.fields.specs.Rules.{stop-at}
 use native.Mathlib.Omega.{arith}

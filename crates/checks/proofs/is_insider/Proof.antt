@@ -1,3 +1,4 @@
+-- `checks::is_insider` meets its contract.
 use Rattle.checks.specs.Checks.{insider}
 use Rattle.fields.specs.Rules.{stop-at}
 use native.Mathlib.Omega.{arith}

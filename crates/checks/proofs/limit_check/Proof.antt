@@ -1,3 +1,4 @@
+-- `checks::limit_check` meets its contract.
 use Rattle.checks.specs.Checks.{limitNumber}
 use Rattle.fields.specs.Rules.{stop-at}
 use native.Mathlib.Omega.{arith}

@@ -1,3 +1,4 @@
+-- `checks::max_vault_deposit` meets its contract.
 use mathlib.Core.Path.{refl}
 use Rattle.amount.specs.Biased.{biased, bias, biasedHigh}
 use Rattle.checks.specs.Checks.{maxVaultDeposit}

@@ -1,3 +1,4 @@
+-- `checks::owner_check` meets its contract.
 use Rattle.checks.specs.Checks.{notOwnerNumber}
 use Rattle.fields.specs.Rules.{stop-at}
 use native.Mathlib.Omega.{arith}

@@ -1,3 +1,4 @@
+-- `checks::paused_check` meets its contract.
 use Rattle.checks.specs.Checks.{pausedNumber}
 use Rattle.fields.specs.Rules.{stop-at}
 use native.Mathlib.Omega.{arith}

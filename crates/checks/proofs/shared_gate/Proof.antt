@@ -1,3 +1,4 @@
+-- `checks::shared_gate` meets its contract.
 use Rattle.checks.specs.Checks.{sharedNumber}
 use Rattle.fields.specs.Rules.{link-at, ends-at}
 use native.Mathlib.Omega.{arith}

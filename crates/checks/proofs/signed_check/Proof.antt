@@ -1,3 +1,4 @@
+-- `checks::signed_check` meets its contract.
 use Rattle.checks.specs.Checks.{signedNumber}
 use Rattle.fields.specs.Rules.{stop-at}
 use native.Mathlib.Omega.{arith}

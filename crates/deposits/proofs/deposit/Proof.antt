@@ -1,5 +1,5 @@
 -- `deposits::deposit` meets its contract.
-use Rattle.record.specs.Laws.{caller-below}
+use Rattle.outcome.specs.FormedLaws.{caller-in}
 use Rattle.record.specs.Form.{readsCaller, member}
 use native.Mathlib.Omega.{arith}
 use mathlib.Core.Path.{refl}
@@ -21,7 +21,7 @@ amount-requires c κs = search needs
 
 deposit-of-requires : tie.Need-deposit-of-requires
 unfolding readsCaller member
-deposit-of-requires c κs = let s = c .before .before .before .before .before .before .before .before .before in let f = s .pre .1 in (s .pre .0, omega (arith, caller-below (s .args .rec .now) 2 (f .formed) (f .operation) refl), s .pre .2)
+deposit-of-requires c κs = let s = c .before .before .before .before .before .before .before .before .before in let f = s .pre .1 in (s .pre .0, omega (arith, caller-in f refl), s .pre .2)
 
 same-length : tie.Need-same-length
 same-length c = search needs

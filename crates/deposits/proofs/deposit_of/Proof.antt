@@ -1,7 +1,7 @@
 -- `deposits::deposit_of` meets its contract.
-use Rattle.deposits.proofs.Whole.{blank-long, moved-keys, deposited, settled-image, deposit-refused, deposit-passed}
+use Rattle.deposits.proofs.Whole.{moved-keys, deposited, settled-image, deposit-refused, deposit-passed}
 use Rattle.deposits.specs.Laws.{checks-passed, receive-free}
-use Rattle.outcome.specs.Outcome.{refused}
+use Rattle.outcome.specs.Outcome.{refused, blank-long}
 use Rattle.amount.specs.Biased.{bias, biased}
 use mathlib.Core.Path.{sym, _∙_}
 use native.Mathlib.Nat.{add-zero}

@@ -1,5 +1,5 @@
 -- `deposits::deposit_token` meets its contract.
-use Rattle.record.specs.Laws.{caller-below, token-below}
+use Rattle.outcome.specs.FormedLaws.{caller-in, token-in}
 use Rattle.record.specs.Form.{readsCaller, readsToken, member}
 use mathlib.Core.Path.{refl}
 use native.Mathlib.Omega.{arith}
@@ -24,7 +24,7 @@ amount-requires c κs = search needs
 
 deposit-token-of-requires : tie.Need-deposit-token-of-requires
 unfolding readsCaller readsToken member
-deposit-token-of-requires c κs = let s = c .before .before .before .before .before .before .before .before .before .before in let f = s .pre .1 in (s .pre .0, omega (arith, caller-below (s .args .rec .now) 7 (f .formed) (f .operation) refl), omega (arith, token-below (s .args .rec .now) 7 (f .formed) (f .operation) refl), s .pre .2)
+deposit-token-of-requires c κs = let s = c .before .before .before .before .before .before .before .before .before .before in let f = s .pre .1 in (s .pre .0, omega (arith, caller-in f refl), omega (arith, token-in f refl), s .pre .2)
 
 same-length : tie.Need-same-length
 same-length c = search needs

@@ -1,8 +1,8 @@
 -- `deposits::deposit_token_of` meets its contract.
-use Rattle.deposits.proofs.Whole.{blank-long, moved-keys, deposited, token-image, token-refused, token-deposited}
+use Rattle.deposits.proofs.Whole.{moved-keys, deposited, token-image, token-refused, token-deposited}
 use mathlib.Core.Path.{sym, _∙_, refl}
 use Rattle.deposits.specs.Laws.{token-passed, receive-free, receive-token-free}
-use Rattle.outcome.specs.Outcome.{refused}
+use Rattle.outcome.specs.Outcome.{refused, blank-long}
 use Rattle.amount.specs.Biased.{bias, biased}
 use native.Mathlib.Nat.{add-zero}
 use native.Mathlib.Omega.{arith}

@@ -1,5 +1,5 @@
 -- `deposits::deposit_with_failure_report` meets its contract.
-use Rattle.record.specs.Laws.{caller-below}
+use Rattle.outcome.specs.FormedLaws.{caller-in}
 use Rattle.record.specs.Form.{readsCaller, member}
 use mathlib.Core.Path.{refl}
 use native.Mathlib.Omega.{arith}
@@ -21,7 +21,7 @@ amount-requires c κs = search needs
 
 deposit-with-failure-report-of-requires : tie.Need-deposit-with-failure-report-of-requires
 unfolding readsCaller member
-deposit-with-failure-report-of-requires c κs = let s = c .before .before .before .before .before .before .before .before .before in let f = s .pre .1 in (s .pre .0, omega (arith, caller-below (s .args .rec .now) 9 (f .formed) (f .operation) refl), s .pre .2)
+deposit-with-failure-report-of-requires c κs = let s = c .before .before .before .before .before .before .before .before .before in let f = s .pre .1 in (s .pre .0, omega (arith, caller-in f refl), s .pre .2)
 
 same-length : tie.Need-same-length
 same-length c = search needs

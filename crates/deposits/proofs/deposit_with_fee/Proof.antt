@@ -1,5 +1,5 @@
 -- `deposits::deposit_with_fee` meets its contract.
-use Rattle.record.specs.Laws.{caller-below}
+use Rattle.outcome.specs.FormedLaws.{caller-in}
 use Rattle.record.specs.Form.{readsCaller, member}
 use mathlib.Core.Path.{refl}
 use native.Mathlib.Omega.{arith}
@@ -24,7 +24,7 @@ fee-requires c κs = search needs
 
 deposit-with-fee-of-requires : tie.Need-deposit-with-fee-of-requires
 unfolding readsCaller member
-deposit-with-fee-of-requires c κs = let s = c .before .before .before .before .before .before .before .before .before .before in let f = s .pre .1 in (s .pre .0, omega (arith, caller-below (s .args .rec .now) 3 (f .formed) (f .operation) refl), s .pre .2)
+deposit-with-fee-of-requires c κs = let s = c .before .before .before .before .before .before .before .before .before .before in let f = s .pre .1 in (s .pre .0, omega (arith, caller-in f refl), s .pre .2)
 
 same-length : tie.Need-same-length
 same-length c = search needs

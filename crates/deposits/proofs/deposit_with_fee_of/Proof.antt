@@ -1,5 +1,6 @@
 -- `deposits::deposit_with_fee_of` meets its contract.
-use Rattle.deposits.proofs.Whole.{blank-long, fee-refused, net-refused, net-deposited}
+use Rattle.deposits.proofs.Whole.{fee-refused, net-refused, net-deposited}
+use Rattle.outcome.specs.Outcome.{blank-long}
 use Rattle.deposits.specs.Laws.{gross-free}
 use Rattle.amount.specs.Biased.{biased}
 use native.Mathlib.Omega.{arith}

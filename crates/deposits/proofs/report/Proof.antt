@@ -1,9 +1,9 @@
 -- `deposits::report` meets its contract.
-use Rattle.deposits.proofs.Whole.{blank-long, moved-keys, deposited, settled-image, reported, not-reported}
+use Rattle.deposits.proofs.Whole.{moved-keys, deposited, settled-image, reported, not-reported}
 use mathlib.Core.Path.{sym, _∙_, refl}
 use Rattle.token.specs.Laws.{transfer-free}
 use Rattle.deposits.proofs.Steps.{moved-is, credited}
-use Rattle.outcome.specs.Outcome.{refused}
+use Rattle.outcome.specs.Outcome.{refused, blank-long}
 use Rattle.amount.specs.Biased.{biased}
 use native.Mathlib.Omega.{arith}
 use borrow.Author.Needs.{needs}

@@ -1,7 +1,7 @@
 -- `deposits::token_cap_check` meets its contract.
 use Rattle.deposits.specs.TokenDeposit.{tokenCapNumber}
 use Rattle.image.specs.Layout.{cappedSet}
-use Rattle.checks.specs.Checks.{member}
+use Rattle.checks.specs.Checks.{inSet}
 use borrow.Author.Tests.{eq-eqb, ne-eqb}
 use native.Mathlib.Omega.{arith}
 use borrow.Author.Needs.{needs}
@@ -16,7 +16,7 @@ has-requires c κs = search needs
 
 returns : tie.Need-returns
 unfolding tokenCapNumber
-returns c = let x = c .before .before .before .before .args in let e = rw (c .before .before .get64 .ensures) at (c .before .has .ensures) in rw (ne-eqb (member (cappedSet (x .img .now)) (x .t)) 1 (omega arith))
+returns c = let x = c .before .before .before .before .args in let e = rw (c .before .before .get64 .ensures) at (c .before .has .ensures) in rw (ne-eqb (inSet (cappedSet (x .img .now)) (x .t)) 1 (omega arith))
 
 mul-read-amount : tie.Need-mul-read-amount
 mul-read-amount c = search needs
@@ -32,7 +32,7 @@ limit-check-requires c κs = search needs
 
 returns-2 : tie.Need-returns-2
 unfolding tokenCapNumber
-returns-2 c = let x = c .before .before .before .before .before .before .args in let e = rw (c .before .before .before .before .get64 .ensures) at (c .before .before .before .has .ensures) in rw (eq-eqb (member (cappedSet (x .img .now)) (x .t)) 1 (omega arith)) (rw (c .before .read-amount .ensures) at (c .limit-check .ensures))
+returns-2 c = let x = c .before .before .before .before .before .before .args in let e = rw (c .before .before .before .before .get64 .ensures) at (c .before .before .before .has .ensures) in rw (eq-eqb (inSet (cappedSet (x .img .now)) (x .t)) 1 (omega arith)) (rw (c .before .read-amount .ensures) at (c .limit-check .ensures))
 
 pub token-cap-check-spec : {M : Type 1} → statement M
 token-cap-check-spec =

@@ -1,3 +1,4 @@
+-- `fields::are_zero` meets its contract.
 use mathlib.Core.Path.{_≡_}
 use Prim.Native.Nat.{_≤_, _-_, _+_}
 use lib.Dec.{eqb}

@@ -1,3 +1,4 @@
+-- `fields::get8` meets its contract.
 use native.Mathlib.Omega.{arith}
 use Rattle.fields.specs.Bytes.{le}
 use borrow.Author.Needs.{needs}

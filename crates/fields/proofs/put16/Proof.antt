@@ -1,3 +1,4 @@
+-- `fields::put16` meets its contract.
 use Rattle.fields.specs.Bytes.{put-halves}
 use borrow.Author.Needs.{needs}
 use Rattle.fields.proofs.put16.Statement.{statement}

@@ -1,3 +1,4 @@
+-- `fields::put8` meets its contract.
 use mathlib.Core.Path.{_≡_, ap}
 use Prim.Native.Nat.{_%_}
 use native.Mathlib.Omega.{arith}

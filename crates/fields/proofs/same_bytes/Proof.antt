@@ -1,3 +1,4 @@
+-- `fields::same_bytes` meets its contract.
 use mathlib.Core.Path.{_≡_, sym, ap, _∙_}
 use Prim.Native.Nat.{_≤_, _-_}
 use lib.Dec.{eqb}

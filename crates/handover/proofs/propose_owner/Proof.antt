@@ -1,5 +1,5 @@
 -- `handover::propose_owner` meets its contract.
-use Rattle.record.specs.Laws.{caller-below}
+use Rattle.outcome.specs.FormedLaws.{caller-in}
 use Rattle.record.specs.Form.{readsCaller, member}
 use native.Mathlib.Omega.{arith}
 use mathlib.Core.Path.{refl}
@@ -28,7 +28,7 @@ timestamp-requires c κs = search needs
 
 propose-owner-of-requires : tie.Need-propose-owner-of-requires
 unfolding readsCaller member
-propose-owner-of-requires c κs = let s = c .before .before .before .before .before .before .before .before .before in let f = s .pre .1 in (s .pre .0, omega (arith, caller-below (s .args .rec .now) 15 (f .formed) (f .operation) refl), s .pre .2)
+propose-owner-of-requires c κs = let s = c .before .before .before .before .before .before .before .before .before in let f = s .pre .1 in (s .pre .0, omega (arith, caller-in f refl), s .pre .2)
 
 same-length : tie.Need-same-length
 same-length c = search needs

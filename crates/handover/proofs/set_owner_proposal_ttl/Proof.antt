@@ -1,5 +1,5 @@
 -- `handover::set_owner_proposal_ttl` meets its contract.
-use Rattle.record.specs.Laws.{caller-below}
+use Rattle.outcome.specs.FormedLaws.{caller-in}
 use Rattle.record.specs.Form.{readsCaller, member}
 use native.Mathlib.Omega.{arith}
 use mathlib.Core.Path.{refl}
@@ -24,7 +24,7 @@ time-to-live-requires c κs = search needs
 
 set-owner-proposal-ttl-of-requires : tie.Need-set-owner-proposal-ttl-of-requires
 unfolding readsCaller member
-set-owner-proposal-ttl-of-requires c κs = let s = c .before .before .before .before .before .before .before .before in let f = s .pre .1 in (s .pre .0, omega (arith, caller-below (s .args .rec .now) 17 (f .formed) (f .operation) refl), s .pre .2)
+set-owner-proposal-ttl-of-requires c κs = let s = c .before .before .before .before .before .before .before .before in let f = s .pre .1 in (s .pre .0, omega (arith, caller-in f refl), s .pre .2)
 
 same-length : tie.Need-same-length
 same-length c = search needs

@@ -1,3 +1,4 @@
+-- `image::above_at` meets its contract.
 use Rattle.image.specs.Laws.{sign-two}
 use borrow.Author.Needs.{needs}
 use Rattle.image.proofs.above_at.Statement.{statement}

@@ -1,3 +1,4 @@
+-- `image::above_where` meets its contract.
 use mathlib.Core.Path.{sym, _∙_}
 use Rattle.image.specs.Good.{aboveWhere}
 use borrow.Author.Needs.{needs}

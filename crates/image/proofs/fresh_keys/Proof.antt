@@ -1,3 +1,4 @@
+-- `image::fresh_keys` meets its contract.
 use mathlib.Core.Path.{_≡_}
 use mathlib.Core.Bool.{true}
 use Prim.Native.Nat.{_-_, _≤_}

@@ -1,3 +1,4 @@
+-- `image::good_defaults` meets its contract.
 use Prim.Native.Nat.{_≤_, _<_}
 use native.Mathlib.Omega.{arith}
 use borrow.Author.Tests.{le-leb, lt-leb}
@@ -13,7 +14,7 @@ use Rattle.fields.proofs.get64.Reads as get64-reads
 use Rattle.fields.proofs.get8.Reads as get8-reads
 use Rattle.image.proofs.above_at.Reads as above-at-reads
 use Rattle.image.proofs.below.Reads as below-reads
-use Rattle.image.proofs.both.Reads as both-reads
+use Rattle.fields.proofs.both.Reads as both-reads
 
 above-at-requires : tie.Need-above-at-requires
 above-at-requires c κs = search needs

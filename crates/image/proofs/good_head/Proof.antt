@@ -1,3 +1,4 @@
+-- `image::good_head` meets its contract.
 use mathlib.Core.Path.{_≡_, sym, ap, _∙_}
 use mathlib.Core.Bool.{true, false}
 use Prim.Native.Nat.{ℕ, _/_, _%_, _^_, _≤_, _<_}
@@ -15,7 +16,7 @@ use Rattle.image.proofs.good_head.Reads as reads
 use Rattle.image.proofs.good_head.Lts as lts
 use Rattle.fields.proofs.get16.Reads as get16-reads
 use Rattle.image.proofs.bit_of.Reads as bit-of-reads
-use Rattle.image.proofs.both.Reads as both-reads
+use Rattle.fields.proofs.both.Reads as both-reads
 use Rattle.image.proofs.good_addresses.Reads as good-addresses-reads
 use Rattle.image.proofs.good_defaults.Reads as good-defaults-reads
 use Rattle.image.proofs.good_options.Reads as good-options-reads

@@ -1,3 +1,4 @@
+-- `image::good_image` meets its contract.
 use Prim.Native.Nat.{ℕ, _<_}
 use native.Mathlib.Omega.{arith}
 use borrow.Author.Tests.{eq-eqb, ne-eqb}
@@ -10,7 +11,7 @@ use Rattle.image.proofs.good_image.Statement.{statement}
 use Rattle.image.proofs.good_image.Tie as tie
 use Rattle.image.proofs.good_image.Reads as reads
 use Rattle.image.proofs.good_image.Lts as lts
-use Rattle.image.proofs.both.Reads as both-reads
+use Rattle.fields.proofs.both.Reads as both-reads
 use Rattle.image.proofs.good_caps.Reads as good-caps-reads
 use Rattle.image.proofs.good_head.Reads as good-head-reads
 use Rattle.image.proofs.good_keys.Reads as good-keys-reads

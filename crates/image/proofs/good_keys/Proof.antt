@@ -1,3 +1,4 @@
+-- `image::good_keys` meets its contract.
 use borrow.Author.Tests.{le-leb, lt-leb}
 use Rattle.fields.specs.Logic.{false-and, true-and}
 use Rattle.image.specs.Good.{goodKeys}
@@ -7,7 +8,7 @@ use Rattle.image.proofs.good_keys.Tie as tie
 use Rattle.image.proofs.good_keys.Reads as reads
 use Rattle.image.proofs.good_keys.Lts as lts
 use Rattle.fields.proofs.get64.Reads as get64-reads
-use Rattle.image.proofs.both.Reads as both-reads
+use Rattle.fields.proofs.both.Reads as both-reads
 use Rattle.image.proofs.fresh_keys.Reads as fresh-keys-reads
 use Rattle.fields.proofs.are_zero.Reads as are-zero-reads
 

@@ -1,3 +1,4 @@
+-- `image::good_migration` meets its contract.
 use Rattle.image.specs.Good.{goodMigration}
 use borrow.Author.Needs.{needs}
 use Rattle.image.proofs.good_migration.Statement.{statement}
@@ -5,8 +6,8 @@ use Rattle.image.proofs.good_migration.Tie as tie
 use Rattle.image.proofs.good_migration.Reads as reads
 use Rattle.image.proofs.good_migration.Lts as lts
 use Rattle.image.proofs.bit_of.Reads as bit-of-reads
-use Rattle.image.proofs.both.Reads as both-reads
-use Rattle.image.proofs.either.Reads as either-reads
+use Rattle.fields.proofs.both.Reads as both-reads
+use Rattle.fields.proofs.either.Reads as either-reads
 use Rattle.image.proofs.zero64_at.Reads as zero64-at-reads
 use Rattle.image.proofs.zero8_at.Reads as zero8-at-reads
 

@@ -1,3 +1,4 @@
+-- `image::good_options` meets its contract.
 use Rattle.image.specs.Good.{goodOptions}
 use borrow.Author.Needs.{needs}
 use Rattle.image.proofs.good_options.Statement.{statement}
@@ -6,8 +7,8 @@ use Rattle.image.proofs.good_options.Reads as reads
 use Rattle.image.proofs.good_options.Lts as lts
 use Rattle.image.proofs.above_where.Reads as above-where-reads
 use Rattle.image.proofs.bit_of.Reads as bit-of-reads
-use Rattle.image.proofs.both.Reads as both-reads
-use Rattle.image.proofs.either.Reads as either-reads
+use Rattle.fields.proofs.both.Reads as both-reads
+use Rattle.fields.proofs.either.Reads as either-reads
 use Rattle.image.proofs.good_migration.Reads as good-migration-reads
 use Rattle.image.proofs.good_pending.Reads as good-pending-reads
 use Rattle.image.proofs.zero8_at.Reads as zero8-at-reads

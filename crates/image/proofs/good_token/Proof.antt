@@ -1,3 +1,4 @@
+-- `image::good_token` meets its contract.
 use mathlib.Core.Path.{_≡_}
 use Prim.Native.Nat.{_+_, _*_}
 use native.Mathlib.Omega.{arith}
@@ -11,7 +12,7 @@ use Rattle.image.proofs.good_token.Reads as reads
 use Rattle.image.proofs.good_token.Lts as lts
 use Rattle.fields.proofs.get64.Reads as get64-reads
 use Rattle.image.proofs.below.Reads as below-reads
-use Rattle.image.proofs.both.Reads as both-reads
+use Rattle.fields.proofs.both.Reads as both-reads
 use Rattle.image.proofs.good_absent.Reads as good-absent-reads
 use Rattle.image.proofs.good_present.Reads as good-present-reads
 use Rattle.image.proofs.good_snapshot.Reads as good-snapshot-reads

@@ -1,3 +1,4 @@
+-- `image::not_negative_at` meets its contract.
 use Rattle.image.specs.Laws.{sign-some}
 use borrow.Author.Needs.{needs}
 use Rattle.image.proofs.not_negative_at.Statement.{statement}

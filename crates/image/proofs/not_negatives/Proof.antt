@@ -1,3 +1,4 @@
+-- `image::not_negatives` meets its contract.
 use mathlib.Core.Path.{sym}
 use Prim.Native.Nat.{ℕ, _+_, _-_, _*_, _≤_, _<_}
 use native.Mathlib.Omega.{arith}

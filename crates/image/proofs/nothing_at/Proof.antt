@@ -1,3 +1,4 @@
+-- `image::nothing_at` meets its contract.
 use Rattle.image.specs.Laws.{sign-one}
 use borrow.Author.Needs.{needs}
 use Rattle.image.proofs.nothing_at.Statement.{statement}

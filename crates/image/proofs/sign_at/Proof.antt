@@ -1,3 +1,4 @@
+-- `image::sign_at` meets its contract.
 use mathlib.Core.Path.{_∙_}
 use borrow.Author.Needs.{needs}
 use Rattle.image.proofs.sign_at.Statement.{statement}

@@ -1,3 +1,4 @@
+-- `image::zero64_at` meets its contract.
 use mathlib.Core.Path.{ap}
 use Prim.Native.Nat.{ℕ}
 use lib.Dec.{eqb}

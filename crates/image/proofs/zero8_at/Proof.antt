@@ -1,3 +1,4 @@
+-- `image::zero8_at` meets its contract.
 use mathlib.Core.Path.{ap}
 use Prim.Native.Nat.{ℕ}
 use lib.Dec.{eqb}

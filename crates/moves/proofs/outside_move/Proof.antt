@@ -1,5 +1,5 @@
 -- `moves::outside_move` meets its contract.
-use Rattle.record.specs.Laws.{caller-below, other-below}
+use Rattle.outcome.specs.FormedLaws.{caller-in, other-in}
 use Rattle.record.specs.Form.{readsCaller, readsOther, member}
 use native.Mathlib.Omega.{arith}
 use mathlib.Core.Path.{refl}
@@ -28,7 +28,7 @@ amount-requires c κs = search needs
 
 outside-move-of-requires : tie.Need-outside-move-of-requires
 unfolding readsCaller readsOther member
-outside-move-of-requires c κs = let s = c .before .before .before .before .before .before .before .before .before in let f = s .pre .1 in (s .pre .0, omega (arith, caller-below (s .args .rec .now) 29 (f .formed) (f .operation) refl), omega (arith, other-below (s .args .rec .now) 29 (f .formed) (f .operation) refl), s .pre .2)
+outside-move-of-requires c κs = let s = c .before .before .before .before .before .before .before .before .before in let f = s .pre .1 in (s .pre .0, omega (arith, caller-in f refl), omega (arith, other-in f refl), s .pre .2)
 
 same-length : tie.Need-same-length
 same-length c = search needs

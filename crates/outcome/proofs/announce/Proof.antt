@@ -1,3 +1,4 @@
+-- `outcome::announce` meets its contract.
 use Rattle.outcome.specs.Outcome.{blank-long}
 use Rattle.events.specs.Buffer.{appended}
 use native.Mathlib.Omega.{arith}

@@ -1,7 +1,7 @@
 -- `payouts::withdraw_batch` meets its contract.
 use Rattle.payouts.specs.Laws.{batch-addressed}
 use Rattle.record.specs.Form.{readsCaller, readsItems, member}
-use Rattle.record.specs.Laws.{caller-below, count-below}
+use Rattle.outcome.specs.FormedLaws.{caller-in, count-in}
 use native.Mathlib.Omega.{arith}
 use mathlib.Core.Path.{refl}
 use borrow.Author.Needs.{needs}
@@ -29,7 +29,7 @@ sequence-requires c κs = search needs
 
 withdraw-batch-of-requires : tie.Need-withdraw-batch-of-requires
 unfolding readsCaller readsItems member
-withdraw-batch-of-requires c κs = let s = c .before .before .before .before .before .before .before .before .before in let f = s .pre .1 in ((s .pre .0, search needs, omega (arith, count-below (s .args .rec .now) 6 (f .formed) (f .operation) refl), omega (arith, caller-below (s .args .rec .now) 6 (f .formed) (f .operation) refl), s .pre .2), rw (c .before .before .before .before .before .item-count .ensures) (batch-addressed f))
+withdraw-batch-of-requires c κs = let s = c .before .before .before .before .before .before .before .before .before in let f = s .pre .1 in ((s .pre .0, search needs, omega (arith, count-in f refl), omega (arith, caller-in f refl), s .pre .2), rw (c .before .before .before .before .before .item-count .ensures) (batch-addressed f))
 
 same-length : tie.Need-same-length
 same-length c = search needs

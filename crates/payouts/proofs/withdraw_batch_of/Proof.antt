@@ -1,8 +1,8 @@
 -- `payouts::withdraw_batch_of` meets its contract.
-use Rattle.payouts.proofs.Whole.{blank-long, checked-out, paid-out, withdrawn}
+use Rattle.payouts.proofs.Whole.{checked-out, paid-out, withdrawn}
 use Rattle.payouts.specs.Payouts.{items}
 use Rattle.payouts.specs.Laws.{checks-passed, items-length}
-use Rattle.outcome.specs.Outcome.{refused}
+use Rattle.outcome.specs.Outcome.{refused, blank-long}
 use mathlib.Core.Path.{refl, sym, _∙_}
 use borrow.Author.Needs.{needs}
 use Rattle.payouts.proofs.withdraw_batch_of.Statement.{statement}

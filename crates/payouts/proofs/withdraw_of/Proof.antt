@@ -1,7 +1,7 @@
 -- `payouts::withdraw_of` meets its contract.
-use Rattle.payouts.proofs.Whole.{blank-long, checked-out, paid-out, withdrawn}
+use Rattle.payouts.proofs.Whole.{checked-out, paid-out, withdrawn}
 use Rattle.payouts.specs.Laws.{checks-passed}
-use Rattle.outcome.specs.Outcome.{refused}
+use Rattle.outcome.specs.Outcome.{refused, blank-long}
 use native.Mathlib.Omega.{arith}
 use mathlib.Core.Path.{refl}
 use borrow.Author.Needs.{needs}

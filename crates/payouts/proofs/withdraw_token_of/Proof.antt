@@ -1,7 +1,7 @@
 -- `payouts::withdraw_token_of` meets its contract.
-use Rattle.payouts.proofs.Whole.{sent-keys, blank-long, token-checked-out, token-paid-out, token-withdrawn}
+use Rattle.payouts.proofs.Whole.{sent-keys, token-checked-out, token-paid-out, token-withdrawn}
 use Rattle.payouts.specs.Laws.{token-checks-passed}
-use Rattle.outcome.specs.Outcome.{refused}
+use Rattle.outcome.specs.Outcome.{refused, blank-long}
 use Rattle.amount.specs.Biased.{biased}
 use native.Mathlib.Omega.{arith}
 use borrow.Author.Needs.{needs}

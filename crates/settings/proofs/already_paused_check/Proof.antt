@@ -1,3 +1,4 @@
+-- `settings::already_paused_check` meets its contract.
 use Rattle.settings.specs.Settings.{alreadyPausedNumber}
 use Rattle.fields.specs.Rules.{stop-at}
 use native.Mathlib.Omega.{arith}

@@ -1,3 +1,4 @@
+-- `settings::below_holding_check` meets its contract.
 use Rattle.settings.specs.Settings.{belowHoldingNumber}
 use Rattle.storage.specs.Writes.{default-range}
 use Rattle.fields.specs.Rules.{stop-at}

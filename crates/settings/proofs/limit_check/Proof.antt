@@ -1,3 +1,4 @@
+-- `settings::limit_check` meets its contract.
 use Rattle.checks.specs.Passed.{initialised-free}
 use Rattle.settings.specs.Settings.{limitSetNumber}
 use Rattle.fields.specs.Rules.{link-at, ends-at}

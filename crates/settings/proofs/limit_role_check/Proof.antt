@@ -1,3 +1,4 @@
+-- `settings::limit_role_check` meets its contract.
 use Rattle.settings.specs.Settings.{limitRoleNumber}
 use Rattle.amount.specs.Biased.{biased}
 use Rattle.image.specs.Layout.{vaultLimit}

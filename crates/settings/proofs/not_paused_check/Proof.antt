@@ -1,3 +1,4 @@
+-- `settings::not_paused_check` meets its contract.
 use Rattle.settings.specs.Settings.{notPausedNumber}
 use Rattle.fields.specs.Rules.{stop-at}
 use native.Mathlib.Omega.{arith}

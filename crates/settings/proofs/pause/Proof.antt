@@ -1,4 +1,5 @@
-use Rattle.record.specs.Laws.{caller-below}
+-- `settings::pause` meets its contract.
+use Rattle.outcome.specs.FormedLaws.{caller-in}
 use Rattle.record.specs.Form.{readsCaller, member}
 use native.Mathlib.Omega.{arith}
 use mathlib.Core.Path.{refl}
@@ -23,7 +24,7 @@ timestamp-requires c κs = search needs
 
 pause-of-requires : tie.Need-pause-of-requires
 unfolding readsCaller member
-pause-of-requires c κs = let s = c .before .before .before .before .before .before .before .before in let f = s .pre .1 in (s .pre .0, omega (arith, caller-below (s .args .rec .now) 18 (f .formed) (f .operation) refl), s .pre .2)
+pause-of-requires c κs = let s = c .before .before .before .before .before .before .before .before in let f = s .pre .1 in (s .pre .0, omega (arith, caller-in f refl), s .pre .2)
 
 same-length : tie.Need-same-length
 same-length c = search needs

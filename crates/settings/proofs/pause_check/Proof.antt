@@ -1,3 +1,4 @@
+-- `settings::pause_check` meets its contract.
 use Rattle.settings.specs.Settings.{pauseNumber}
 use Rattle.fields.specs.Rules.{link-at, ends-at}
 use native.Mathlib.Omega.{arith}

@@ -1,3 +1,4 @@
+-- `settings::revoke_operator_of` meets its contract.
 use Rattle.settings.specs.Settings.{operatorRevokedOutcome}
 use Rattle.outcome.specs.Outcome.{refused, announced}
 use mathlib.Core.Path.{sym, _∙_}

@@ -1,3 +1,4 @@
+-- `settings::set_limit_of` meets its contract.
 use Rattle.settings.specs.Settings.{limitSetOutcome}
 use Rattle.outcome.specs.Outcome.{refused, announced}
 use mathlib.Core.Path.{sym, _∙_}

@@ -1,4 +1,5 @@
-use Rattle.record.specs.Laws.{caller-below}
+-- `settings::set_operator_withdraw_limit` meets its contract.
+use Rattle.outcome.specs.FormedLaws.{caller-in}
 use Rattle.record.specs.Form.{readsCaller, member}
 use native.Mathlib.Omega.{arith}
 use mathlib.Core.Path.{refl}
@@ -23,7 +24,7 @@ amount-requires c κs = search needs
 
 set-operator-withdraw-limit-of-requires : tie.Need-set-operator-withdraw-limit-of-requires
 unfolding readsCaller member
-set-operator-withdraw-limit-of-requires c κs = let s = c .before .before .before .before .before .before .before .before in let f = s .pre .1 in (s .pre .0, omega (arith, caller-below (s .args .rec .now) 10 (f .formed) (f .operation) refl), s .pre .2)
+set-operator-withdraw-limit-of-requires c κs = let s = c .before .before .before .before .before .before .before .before in let f = s .pre .1 in (s .pre .0, omega (arith, caller-in f refl), s .pre .2)
 
 same-length : tie.Need-same-length
 same-length c = search needs

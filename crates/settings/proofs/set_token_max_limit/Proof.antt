@@ -1,4 +1,5 @@
-use Rattle.record.specs.Laws.{caller-below, token-below}
+-- `settings::set_token_max_limit` meets its contract.
+use Rattle.outcome.specs.FormedLaws.{caller-in, token-in}
 use Rattle.record.specs.Form.{readsCaller, readsToken, member}
 use native.Mathlib.Omega.{arith}
 use mathlib.Core.Path.{refl}
@@ -27,7 +28,7 @@ amount-requires c κs = search needs
 
 set-token-max-limit-of-requires : tie.Need-set-token-max-limit-of-requires
 unfolding readsCaller readsToken member
-set-token-max-limit-of-requires c κs = let s = c .before .before .before .before .before .before .before .before .before in let f = s .pre .1 in (s .pre .0, omega (arith, caller-below (s .args .rec .now) 12 (f .formed) (f .operation) refl), omega (arith, token-below (s .args .rec .now) 12 (f .formed) (f .operation) refl), s .pre .2)
+set-token-max-limit-of-requires c κs = let s = c .before .before .before .before .before .before .before .before .before in let f = s .pre .1 in (s .pre .0, omega (arith, caller-in f refl), omega (arith, token-in f refl), s .pre .2)
 
 same-length : tie.Need-same-length
 same-length c = search needs

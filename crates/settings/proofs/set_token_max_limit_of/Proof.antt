@@ -1,3 +1,4 @@
+-- `settings::set_token_max_limit_of` meets its contract.
 use Rattle.settings.specs.Settings.{tokenMaxLimitOutcome}
 use Rattle.outcome.specs.Outcome.{refused, accepted}
 use Rattle.amount.specs.Biased.{bias}

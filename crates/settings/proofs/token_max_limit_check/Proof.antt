@@ -1,3 +1,4 @@
+-- `settings::token_max_limit_check` meets its contract.
 use Rattle.settings.specs.Settings.{tokenMaxLimitNumber}
 use Rattle.fields.specs.Rules.{link-at, ends-at}
 use native.Mathlib.Omega.{arith}

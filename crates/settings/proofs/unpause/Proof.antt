@@ -1,4 +1,5 @@
-use Rattle.record.specs.Laws.{caller-below}
+-- `settings::unpause` meets its contract.
+use Rattle.outcome.specs.FormedLaws.{caller-in}
 use Rattle.record.specs.Form.{readsCaller, member}
 use native.Mathlib.Omega.{arith}
 use mathlib.Core.Path.{refl}
@@ -23,7 +24,7 @@ timestamp-requires c κs = search needs
 
 unpause-of-requires : tie.Need-unpause-of-requires
 unfolding readsCaller member
-unpause-of-requires c κs = let s = c .before .before .before .before .before .before .before .before in let f = s .pre .1 in (s .pre .0, omega (arith, caller-below (s .args .rec .now) 19 (f .formed) (f .operation) refl), s .pre .2)
+unpause-of-requires c κs = let s = c .before .before .before .before .before .before .before .before in let f = s .pre .1 in (s .pre .0, omega (arith, caller-in f refl), s .pre .2)
 
 same-length : tie.Need-same-length
 same-length c = search needs

@@ -1,3 +1,4 @@
+-- `settings::unpause_check` meets its contract.
 use Rattle.settings.specs.Settings.{unpauseNumber}
 use Rattle.fields.specs.Rules.{link-at, ends-at}
 use native.Mathlib.Omega.{arith}

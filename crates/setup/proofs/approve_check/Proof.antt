@@ -1,3 +1,4 @@
+-- `setup::approve_check` meets its contract.
 use Rattle.setup.specs.Setup.{approveNumber}
 use Rattle.fields.specs.Rules.{link-at, ends-at}
 use borrow.Author.Tests.{eq-eqb, ne-eqb}

@@ -1,4 +1,5 @@
-use Rattle.record.specs.Laws.{caller-below, token-below, flag-below}
+-- `setup::approve_token` meets its contract.
+use Rattle.outcome.specs.FormedLaws.{caller-in, token-in, flag-in}
 use Rattle.record.specs.Form.{readsCaller, readsToken, readsFlag, member}
 use native.Mathlib.Omega.{arith}
 use mathlib.Core.Path.{refl}
@@ -27,7 +28,7 @@ flag-requires c κs = search needs
 
 approve-token-of-requires : tie.Need-approve-token-of-requires
 unfolding readsCaller readsToken readsFlag member
-approve-token-of-requires c κs = let s = c .before .before .before .before .before .before .before .before .before in let f = s .pre .1 in (s .pre .0, omega (arith, caller-below (s .args .rec .now) 20 (f .formed) (f .operation) refl), omega (arith, token-below (s .args .rec .now) 20 (f .formed) (f .operation) refl), omega (arith, flag-below (s .args .rec .now) 20 (f .formed) (f .operation) refl), s .pre .2)
+approve-token-of-requires c κs = let s = c .before .before .before .before .before .before .before .before .before in let f = s .pre .1 in (s .pre .0, omega (arith, caller-in f refl), omega (arith, token-in f refl), omega (arith, flag-in f refl), s .pre .2)
 
 same-length : tie.Need-same-length
 same-length c = search needs

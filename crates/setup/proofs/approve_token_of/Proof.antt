@@ -1,3 +1,4 @@
+-- `setup::approve_token_of` meets its contract.
 use Rattle.setup.proofs.Steps.{flag-num}
 use Rattle.setup.specs.Setup.{approveOutcome}
 use Rattle.outcome.specs.Outcome.{refused, announced}

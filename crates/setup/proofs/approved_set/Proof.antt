@@ -1,3 +1,4 @@
+-- `setup::approved_set` meets its contract.
 use borrow.Author.Tests.{eq-eqb, ne-eqb}
 use borrow.Author.Needs.{needs}
 use Rattle.setup.proofs.approved_set.Statement.{statement}

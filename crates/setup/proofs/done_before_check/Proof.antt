@@ -1,3 +1,4 @@
+-- `setup::done_before_check` meets its contract.
 use Rattle.setup.specs.Setup.{doneBeforeNumber}
 use Rattle.fields.specs.Rules.{stop-at}
 use native.Mathlib.Omega.{arith}

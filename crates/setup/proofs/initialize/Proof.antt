@@ -1,4 +1,5 @@
-use Rattle.record.specs.Laws.{caller-below, token-below}
+-- `setup::initialize` meets its contract.
+use Rattle.outcome.specs.FormedLaws.{caller-in, token-in}
 use Rattle.record.specs.Form.{readsCaller, readsToken, member}
 use native.Mathlib.Omega.{arith}
 use mathlib.Core.Path.{refl}
@@ -27,7 +28,7 @@ amount-requires c κs = search needs
 
 initialize-of-requires : tie.Need-initialize-of-requires
 unfolding readsCaller readsToken member
-initialize-of-requires c κs = let s = c .before .before .before .before .before .before .before .before .before in let f = s .pre .1 in (s .pre .0, omega (arith, caller-below (s .args .rec .now) 1 (f .formed) (f .operation) refl), omega (arith, token-below (s .args .rec .now) 1 (f .formed) (f .operation) refl), s .pre .2)
+initialize-of-requires c κs = let s = c .before .before .before .before .before .before .before .before .before in let f = s .pre .1 in (s .pre .0, omega (arith, caller-in f refl), omega (arith, token-in f refl), s .pre .2)
 
 same-length : tie.Need-same-length
 same-length c = search needs

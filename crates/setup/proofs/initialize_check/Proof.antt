@@ -1,3 +1,4 @@
+-- `setup::initialize_check` meets its contract.
 use Rattle.setup.specs.Setup.{initializeNumber}
 use Rattle.fields.specs.Rules.{link-at, ends-at}
 use native.Mathlib.Omega.{arith}

@@ -1,3 +1,4 @@
+-- `setup::initialize_image` meets its contract.
 use Rattle.setup.specs.Setup.{initializeImage}
 use borrow.Author.Needs.{needs}
 use Rattle.setup.proofs.initialize_image.Statement.{statement}

@@ -1,3 +1,4 @@
+-- `setup::initialize_of` meets its contract.
 use Rattle.setup.specs.Setup.{initializeOutcome}
 use Rattle.outcome.specs.Outcome.{refused, announced}
 use mathlib.Core.Path.{sym, _∙_}

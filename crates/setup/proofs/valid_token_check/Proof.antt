@@ -1,3 +1,4 @@
+-- `setup::valid_token_check` meets its contract.
 use Rattle.setup.specs.Setup.{validTokenNumber}
 use Rattle.fields.specs.Rules.{link-at, ends-at}
 use native.Mathlib.Omega.{arith}

@@ -1,3 +1,4 @@
+-- `setup::zero_token_check` meets its contract.
 use Rattle.setup.specs.Setup.{zeroTokenNumber}
 use Rattle.fields.specs.Rules.{stop-at}
 use native.Mathlib.Omega.{arith}

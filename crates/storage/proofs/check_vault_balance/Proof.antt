@@ -1,3 +1,4 @@
+-- `storage::check_vault_balance` meets its contract.
 use Rattle.storage.specs.Setters.{snapshotNumber}
 use Rattle.fields.specs.Rules.{stop-at}
 use native.Mathlib.Omega.{arith}

@@ -1,3 +1,4 @@
+-- `storage::clear_flag` meets its contract.
 use native.Mathlib.Omega.{arith}
 use borrow.Author.Needs.{needs}
 use Rattle.storage.proofs.clear_flag.Statement.{statement}

@@ -1,3 +1,4 @@
+-- `storage::is_tracked` meets its contract.
 use Rattle.storage.specs.Room.{there, none-yet, none-more}
 use Rattle.image.specs.Good.{tracked}
 use Rattle.image.specs.Layout.{trackedCount}

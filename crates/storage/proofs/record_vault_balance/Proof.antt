@@ -1,3 +1,4 @@
+-- `storage::record_vault_balance` meets its contract.
 use Rattle.storage.specs.Setters.{recordBalance}
 use borrow.Author.Needs.{needs}
 use Rattle.storage.proofs.record_vault_balance.Statement.{statement}

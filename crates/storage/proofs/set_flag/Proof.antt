@@ -1,3 +1,4 @@
+-- `storage::set_flag` meets its contract.
 use Rattle.storage.specs.Flags.{flag-on}
 use native.Mathlib.Omega.{arith}
 use borrow.Author.Needs.{needs}

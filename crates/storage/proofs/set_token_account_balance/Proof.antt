@@ -1,3 +1,4 @@
+-- `storage::set_token_account_balance` meets its contract.
 use native.Mathlib.Omega.{arith}
 use Rattle.storage.specs.Kept.{credit-keys}
 use Rattle.storage.specs.Setters.{setCredit}

@@ -1,3 +1,4 @@
+-- `storage::set_token_max_limit` meets its contract.
 use native.Mathlib.Omega.{arith}
 use Rattle.storage.specs.Kept.{cap-keys}
 use Rattle.storage.specs.Setters.{setCap}

@@ -1,3 +1,4 @@
+-- `storage::track_vault_key` meets its contract.
 use Rattle.image.specs.Layout.{trackedCount}
 use Rattle.storage.specs.Kept.{tracked-already, tracked-anew, key-room}
 use Prim.Native.Nat.{_<_}

@@ -1,3 +1,4 @@
+-- `storage::with_bit` meets its contract.
 use Rattle.storage.specs.Bits.{with-on, with-off, shifted-one, set-fits}
 use Rattle.image.specs.Layout.{bit}
 use native.Mathlib.Omega.{arith}

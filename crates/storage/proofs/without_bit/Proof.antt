@@ -1,3 +1,4 @@
+-- `storage::without_bit` meets its contract.
 use Rattle.storage.specs.Bits.{without-on, without-off, shifted-one, bit-there}
 use Rattle.image.specs.Layout.{bit}
 use native.Mathlib.Omega.{arith}

@@ -1,3 +1,4 @@
+-- `token::after_toll` meets its contract.
 use Rattle.token.proofs.Steps.{toll-range}
 use Rattle.token.specs.Token.{arrives}
 use native.Mathlib.Omega.{arith}

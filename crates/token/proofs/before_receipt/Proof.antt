@@ -1,3 +1,4 @@
+-- `token::before_receipt` meets its contract.
 use Rattle.token.proofs.Steps.{self-left}
 use Rattle.token.specs.Laws.{debited-other}
 use Rattle.amount.specs.Biased.{biased}

@@ -1,3 +1,4 @@
+-- `token::presence_check` meets its contract.
 use Rattle.token.specs.Token.{absentNumber}
 use Rattle.fields.specs.Rules.{stop-at}
 use native.Mathlib.Omega.{arith}

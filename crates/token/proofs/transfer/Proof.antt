@@ -1,3 +1,4 @@
+-- `token::transfer` meets its contract.
 use Rattle.token.proofs.Steps.{debit-is, transfer-is, gain-fits}
 use Rattle.token.specs.Laws.{transfer-free, transfer-failed, transfer-done}
 use Rattle.amount.specs.Biased.{biased}

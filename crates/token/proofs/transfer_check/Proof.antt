@@ -1,3 +1,4 @@
+-- `token::transfer_check` meets its contract.
 use Rattle.token.specs.Token.{transferNumber, received}
 use Rattle.fields.specs.Rules.{stop-at}
 use native.Mathlib.Omega.{arith}

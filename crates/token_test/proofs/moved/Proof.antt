@@ -1,3 +1,4 @@
+-- `token_test::moved` meets its contract.
 use Rattle.storage.specs.Facts.{facts}
 use borrow.Author.Tests.{not-false}
 use native.Mathlib.Omega.{arith}

@@ -1,3 +1,4 @@
+-- `token_vault::answer_call` meets its contract.
 use Rattle.token_vault.proofs.Called.{form-passed, form-refused, buffer-refused, stops, replies, bad-image, bad-journal, bad-call, viewed, operated-is}
 use Rattle.storage.specs.Facts.{facts}
 use Rattle.events.specs.Buffer.{buffer-long}

@@ -1,3 +1,4 @@
+-- `token_vault::call` meets its contract.
 use Rattle.events.specs.Splice.{amountBytes}
 use mathlib.Core.Path.{ap, _∙_}
 use borrow.Author.Needs.{needs}

@@ -1,3 +1,4 @@
+-- `token_vault::call_without_journal` meets its contract.
 use Rattle.token_vault.proofs.Called.{alone}
 use Rattle.token_vault.specs.Public.{closedJournal}
 use borrow.Author.Needs.{needs}

@@ -1,3 +1,4 @@
+-- `token_vault::demand_three` meets its contract.
 use Rattle.token_vault.proofs.Demanded.{demanded}
 use borrow.Author.Needs.{needs}
 use Rattle.token_vault.proofs.demand_three.Statement.{statement}

@@ -1,3 +1,4 @@
+-- `token_vault::keep` meets its contract.
 use Rattle.token_vault.proofs.Called.{kept-34, kept-entered, kept-closed}
 use borrow.Author.Tests.{not-true, not-false}
 use native.Mathlib.Omega.{arith}

@@ -1,3 +1,4 @@
+-- `token_vault::look` meets its contract.
 use Rattle.token_vault.proofs.Dispatched.{no-view}
 use Rattle.token_vault.specs.Vault.{outcomeOf}
 use Rattle.outcome.specs.Outcome.{formed-as}

@@ -1,3 +1,4 @@
+-- `token_vault::operate` meets its contract.
 use Rattle.token_vault.proofs.Dispatched.{not-view}
 use Rattle.token_vault.specs.Vault.{outcomeOf}
 use Rattle.outcome.specs.Outcome.{formed-as, refused}

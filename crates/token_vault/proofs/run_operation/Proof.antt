@@ -1,3 +1,4 @@
+-- `token_vault::run_operation` meets its contract.
 use Rattle.token_vault.proofs.Called.{blank-is, kept-full, kept-done, stops, replies}
 use Rattle.token_vault.specs.Vault.{op}
 use Rattle.journal.proofs.Dispatch.{operated-refused}

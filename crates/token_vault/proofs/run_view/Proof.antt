@@ -1,3 +1,4 @@
+-- `token_vault::run_view` meets its contract.
 use Rattle.token_vault.proofs.Called.{own-refused, view-done}
 use Rattle.token_vault.proofs.Owed.{form-zero}
 use borrow.Author.Needs.{needs}

@@ -1,3 +1,4 @@
+-- `token_vault::try_operation` meets its contract.
 use Rattle.token_vault.proofs.Called.{tried, tried-refused}
 use Rattle.token_vault.proofs.Owed.{form-zero}
 use mathlib.Core.Path.{refl}

@@ -1,3 +1,4 @@
+-- `token_vault::undo` meets its contract.
 use Rattle.token_vault.proofs.Called.{journal-30, journal-31, journal-step, vault-undo}
 use Rattle.journal.specs.Calls.{Call}
 use Rattle.storage.specs.Facts.{facts}

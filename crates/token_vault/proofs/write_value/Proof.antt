@@ -1,3 +1,4 @@
+-- `token_vault::write_value` meets its contract.
 use Rattle.token_vault.proofs.Called.{value-bytes}
 use mathlib.Core.Path.{_∙_}
 use borrow.Author.Needs.{needs}

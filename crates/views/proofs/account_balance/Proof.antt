@@ -1,3 +1,4 @@
+-- `views::account_balance` meets its contract.
 use Rattle.views.proofs.Steps.{no-token, token-credit}
 use native.Mathlib.Omega.{arith}
 use borrow.Author.Needs.{needs}

@@ -1,3 +1,4 @@
+-- `views::balance` meets its contract.
 use Rattle.views.proofs.Steps.{default-holding}
 use Rattle.views.specs.Views.{balanceOutcome}
 use Rattle.outcome.specs.Outcome.{view-refused, view-accepted}
@@ -12,7 +13,7 @@ use Rattle.views.proofs.balance.Lts as lts
 use Rattle.checks.proofs.initialised_check.Reads as initialised-check-reads
 use Rattle.outcome.proofs.refuse.Reads as refuse-reads
 use Rattle.outcome.proofs.viewed.Reads as viewed-reads
-use Rattle.views.proofs.vault_balance.Reads as vault-balance-reads
+use Rattle.token.proofs.vault_balance.Reads as vault-balance-reads
 
 initialised-check-requires : tie.Need-initialised-check-requires
 initialised-check-requires c κs = search needs

@@ -1,3 +1,4 @@
+-- `views::effective_check` meets its contract.
 use Rattle.views.specs.Views.{effectiveNumber}
 use Rattle.fields.specs.Rules.{link-at, ends-at}
 use native.Mathlib.Omega.{arith}

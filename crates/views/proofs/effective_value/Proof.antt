@@ -1,3 +1,4 @@
+-- `views::effective_value` meets its contract.
 use Rattle.views.proofs.Steps.{owner-value, capped-value, full-value}
 use native.Mathlib.Omega.{arith}
 use mathlib.Core.Path.{sym, _∙_}
@@ -9,7 +10,7 @@ use Rattle.views.proofs.effective_value.Lts as lts
 use Rattle.amount.proofs.below.Reads as below-reads
 use Rattle.amount.proofs.read_amount.Reads as read-amount-reads
 use Rattle.fields.proofs.get8.Reads as get8-reads
-use Rattle.views.proofs.vault_balance.Reads as vault-balance-reads
+use Rattle.token.proofs.vault_balance.Reads as vault-balance-reads
 
 vault-balance-requires : tie.Need-vault-balance-requires
 vault-balance-requires c κs = search needs

@@ -1,3 +1,4 @@
+-- `views::effective_withdraw_limit` meets its contract.
 use borrow.Author.Needs.{needs}
 use Rattle.views.proofs.effective_withdraw_limit.Statement.{statement}
 use Rattle.views.proofs.effective_withdraw_limit.Tie as tie

@@ -1,3 +1,4 @@
+-- `views::effective_withdraw_limit_of` meets its contract.
 use Rattle.views.specs.Views.{effectiveOutcome, effectiveNumber}
 use Rattle.outcome.specs.Outcome.{view-refused, view-accepted}
 use Rattle.checks.specs.Passed.{initialised-free}

@@ -1,6 +1,7 @@
+-- `views::get_token_account_balance` meets its contract.
 use Rattle.views.specs.Views.{accountOutcome}
 use Rattle.outcome.specs.Outcome.{view-accepted}
-use Rattle.record.specs.Laws.{caller-below, token-below}
+use Rattle.outcome.specs.FormedLaws.{caller-in, token-in}
 use Rattle.record.specs.Form.{readsCaller, readsToken, member}
 use native.Mathlib.Omega.{arith}
 use mathlib.Core.Path.{refl}
@@ -22,7 +23,7 @@ caller-requires c κs = search needs
 
 account-balance-requires : tie.Need-account-balance-requires
 unfolding readsCaller readsToken member
-account-balance-requires c κs = let s = c .before .before .before .before in let f = s .pre .1 in (s .pre .0, omega (arith, token-below (s .args .rec .now) 26 (f .formed) (f .operation) refl), omega (arith, caller-below (s .args .rec .now) 26 (f .formed) (f .operation) refl))
+account-balance-requires c κs = let s = c .before .before .before .before in let f = s .pre .1 in (s .pre .0, omega (arith, token-in f refl), omega (arith, caller-in f refl))
 
 viewed-requires : tie.Need-viewed-requires
 viewed-requires c κs = search needs

@@ -1,6 +1,7 @@
+-- `views::is_token_approved` meets its contract.
 use Rattle.views.specs.Views.{approvedOutcome}
 use Rattle.outcome.specs.Outcome.{view-accepted}
-use Rattle.record.specs.Laws.{token-below}
+use Rattle.outcome.specs.FormedLaws.{token-in}
 use Rattle.record.specs.Form.{readsToken, member}
 use native.Mathlib.Omega.{arith}
 use mathlib.Core.Path.{refl}
@@ -26,7 +27,7 @@ cast-has c = search needs
 
 has-requires : tie.Need-has-requires
 unfolding readsToken member
-has-requires c κs = let s = c .before .before .before .before in let f = s .pre .1 in omega (arith, token-below (s .args .rec .now) 27 (f .formed) (f .operation) refl)
+has-requires c κs = let s = c .before .before .before .before in let f = s .pre .1 in omega (arith, token-in f refl)
 
 from-u64-requires : tie.Need-from-u64-requires
 from-u64-requires c κs = search needs

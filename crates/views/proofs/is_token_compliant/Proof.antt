@@ -1,3 +1,4 @@
+-- `views::is_token_compliant` meets its contract.
 use borrow.Author.Needs.{needs}
 use Rattle.views.proofs.is_token_compliant.Statement.{statement}
 use Rattle.views.proofs.is_token_compliant.Tie as tie

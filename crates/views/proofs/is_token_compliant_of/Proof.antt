@@ -1,3 +1,4 @@
+-- `views::is_token_compliant_of` meets its contract.
 use Rattle.views.specs.Views.{compliantOutcome, compliantNumber}
 use Rattle.outcome.specs.Outcome.{view-refused, view-accepted}
 use borrow.Author.Tests.{eq-eqb, ne-eqb}

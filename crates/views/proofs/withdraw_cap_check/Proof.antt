@@ -1,3 +1,4 @@
+-- `views::withdraw_cap_check` meets its contract.
 use Rattle.views.specs.Views.{withdrawCapNumber}
 use Rattle.fields.specs.Rules.{stop-at}
 use native.Mathlib.Omega.{arith}

@@ -1,14 +1,14 @@
--- `migration::announce_value` meets its contract.
+-- `outcome::announce_value` meets its contract.
 use Rattle.outcome.specs.Outcome.{blank-long}
 use Rattle.events.specs.Buffer.{appended}
 use native.Mathlib.Omega.{arith}
 use mathlib.Core.List.{[]}
 use mathlib.Core.Path.{refl}
 use borrow.Author.Needs.{needs}
-use Rattle.migration.proofs.announce_value.Statement.{statement}
-use Rattle.migration.proofs.announce_value.Tie as tie
-use Rattle.migration.proofs.announce_value.Reads as reads
-use Rattle.migration.proofs.announce_value.Lts as lts
+use Rattle.outcome.proofs.announce_value.Statement.{statement}
+use Rattle.outcome.proofs.announce_value.Tie as tie
+use Rattle.outcome.proofs.announce_value.Reads as reads
+use Rattle.outcome.proofs.announce_value.Lts as lts
 use Rattle.events.proofs.put_event.Reads as put-event-reads
 
 put-event-requires : tie.Need-put-event-requires

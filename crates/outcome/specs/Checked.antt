@@ -1,15 +1,10 @@
--- An outcome behind checks, for operations whose checks are a function of their own; and the kind of the first event, as the book reads it.
+-- An outcome behind checks, for operations whose checks are a function of their own.
 use mathlib.Core.Path.{_≡_, refl, sym, _∙_}
 use mathlib.Core.List.{List, [], _∷_}
 use Prim.Native.Nat.{ℕ}
-use native.Mathlib.Omega.{arith}
-use lib.ListN.{getD}
-use Rattle.fields.specs.Bytes.{le}
-use Rattle.events.specs.Event.{EventFields, eventBuffer}
-use Rattle.events.specs.Buffer.{first-kind}
-use Rattle.outcome.specs.declared.Answer.{Answer}
-use Rattle.outcome.specs.Outcome.{Outcome, Does, refused}
 use Rattle.fields.specs.Rules.{chain, link-at, ends-at}
+use Rattle.outcome.specs.declared.Answer.{Answer}
+use Rattle.outcome.specs.Outcome.{Outcome, Does, refused}
 
 -- k is the number of the checks, o what follows where they pass
 abbrev pub checked : ℕ → Outcome → Outcome
@@ -30,7 +25,3 @@ module _ (k : ℕ) (o : Outcome) {j : ℕ} {a : Answer} {image events : List ℕ
         changed = λ y. d .changed (f ∙ y);
         written = λ y. d .written (f ∙ y);
       }
-
-pub first-byte : (e : EventFields) (es : List EventFields) → getD (eventBuffer (e ∷ es)) 0 0 ≡ e .kind
-unfolding le
-first-byte e es = let k = first-kind e es in omega arith
