@@ -1,5 +1,6 @@
 #!/bin/sh
-# Compares the vault with the Rust contract: planted mistakes first, then a run from a fixed seed. Other options go to the driver.
+# Compares the vault with the Rust contract: the vectors made again, the calls of the benchmark and planted mistakes first, then a run from a
+# fixed seed. Other options go to the driver; with --bench alone the two are timed instead, and --vectors FOLDER writes the vectors.
 # The contract's Rust is looked for beside the repository, or in VAULT_RUST_SRC; the vault in target/staticlib, or in VAULT_LIBRARY.
 set -eu
 root=$(cd "$(dirname "$0")/.." && pwd)
@@ -11,6 +12,16 @@ CARGO_TARGET_DIR=${CARGO_TARGET_DIR:-$root/target/compare}
 export CARGO_TARGET_DIR
 cargo build --release --offline --quiet --manifest-path compare/Cargo.toml
 driver=$CARGO_TARGET_DIR/release/driver
+bench=$CARGO_TARGET_DIR/release/bench
+case "$*" in
+--bench) exec "$bench" ;;
+*--vectors*) exec "$driver" "$@" ;;
+esac
+vectors=$CARGO_TARGET_DIR/vectors
+"$driver" --vectors "$vectors"
+cmp "$vectors/stdin" crates/token_vault_vectors/stdin
+cmp "$vectors/stdout" crates/token_vault_vectors/stdout
+"$bench" --quick
 "$driver" --self-test --calls 400000
 if [ $# -eq 0 ]; then
     set -- --calls 2000000 --seed 1 --jobs 2

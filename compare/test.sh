@@ -10,7 +10,7 @@ cd "$root"
 [ -f "$program" ] || rt check token_vault_main
 CARGO_TARGET_DIR=${CARGO_TARGET_DIR:-$root/target/compare}
 export CARGO_TARGET_DIR
-cargo test --offline --quiet --manifest-path compare/token_vault/Cargo.toml
+cargo test --offline --quiet --manifest-path compare/Cargo.toml --package token_vault --package sha256
 gcc -std=c99 -Wall -Wextra -Werror -O1 -Icompare/include compare/c/smoke.c "$archive" -o "$CARGO_TARGET_DIR/smoke"
 "$CARGO_TARGET_DIR/smoke"
 

@@ -2,9 +2,6 @@
 use std::path::{Path, PathBuf};
 use std::{env, fs};
 
-#[path = "sha256.rs"]
-mod sha256;
-
 const FILES: [(&str, &str); 3] = [
     ("lib.rs", "389277219ebd4f0b3398dfbae0e78c0735af35c70f60bb0b20f12537239b6e2c"),
     ("storage.rs", "76304f25c7cdc36a0648a11c24ffcf6076f9ee805741c56664412d4657109f93"),
@@ -14,7 +11,6 @@ const FILES: [(&str, &str); 3] = [
 fn main() {
     println!("cargo:rerun-if-env-changed=VAULT_RUST_SRC");
     println!("cargo:rerun-if-changed=stand_in");
-    println!("cargo:rerun-if-changed=sha256.rs");
     let root = PathBuf::from(env::var("CARGO_MANIFEST_DIR").expect("a manifest"));
     let out = PathBuf::from(env::var("OUT_DIR").expect("a folder to write to"));
     let source = source(&root);

@@ -1,18 +1,16 @@
-// Links target/staticlib/libtoken_vault_abi.a of the repository, or the archive in the directory that TOKEN_VAULT_LIB names.
+//! Links libtoken_vault_abi.a: the folder in VAULT_LIBRARY, or target/staticlib of the repository.
 use std::env;
 use std::path::PathBuf;
 
 fn main() {
-    let directory = match env::var_os("TOKEN_VAULT_LIB") {
-        Some(named) => PathBuf::from(named),
-        None => PathBuf::from(env::var_os("CARGO_MANIFEST_DIR").unwrap()).join("../../target/staticlib"),
+    println!("cargo:rerun-if-env-changed=VAULT_LIBRARY");
+    let folder = match env::var_os("VAULT_LIBRARY") {
+        Some(path) => PathBuf::from(path),
+        None => PathBuf::from(env::var("CARGO_MANIFEST_DIR").expect("a manifest")).join("../../target/staticlib"),
     };
-    let archive = directory.join("libtoken_vault_abi.a");
-    if !archive.is_file() {
-        panic!("{} is missing: run `rt staticlib token_vault_abi` in the repository's root", archive.display());
-    }
-    println!("cargo:rerun-if-env-changed=TOKEN_VAULT_LIB");
-    println!("cargo:rerun-if-changed={}", archive.display());
-    println!("cargo:rustc-link-search=native={}", directory.display());
+    let library = folder.join("libtoken_vault_abi.a");
+    assert!(library.is_file(), "{} is not there: run rt staticlib token_vault_abi", library.display());
+    println!("cargo:rerun-if-changed={}", library.display());
+    println!("cargo:rustc-link-search=native={}", folder.display());
     println!("cargo:rustc-link-lib=static=token_vault_abi");
 }

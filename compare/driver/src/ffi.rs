@@ -1,34 +1,6 @@
-//! The vault's six functions, as C sees them, and a call of any kind through them.
+//! A call of any kind at the vault, through the functions that C sees.
 use model::vault::{Answer, Call, Vault};
-
-extern "C" {
-    fn token_vault_call(
-        image: *mut u8,
-        image_length: usize,
-        journal: *mut u8,
-        journal_length: usize,
-        record: *const u8,
-        record_length: usize,
-        events: *mut u8,
-        events_length: usize,
-        value: *mut u8,
-        event_count: *mut u32,
-    ) -> u32;
-    fn token_vault_call_without_journal(
-        image: *mut u8,
-        image_length: usize,
-        record: *const u8,
-        record_length: usize,
-        events: *mut u8,
-        events_length: usize,
-        value: *mut u8,
-        event_count: *mut u32,
-    ) -> u32;
-    fn token_vault_begin(image: *mut u8, image_length: usize, journal: *mut u8, journal_length: usize) -> u32;
-    fn token_vault_commit(image: *mut u8, image_length: usize, journal: *mut u8, journal_length: usize) -> u32;
-    fn token_vault_rollback(image: *mut u8, image_length: usize, journal: *mut u8, journal_length: usize) -> u32;
-    fn token_vault_undo(image: *mut u8, image_length: usize, journal: *mut u8, journal_length: usize) -> u32;
-}
+use token_vault::ffi::{token_vault_call, token_vault_call_without_journal};
 
 /// Makes a call at the vault. Without a journal, only operations.
 pub fn call(vault: &mut Vault, call: &Call, with_journal: bool) -> Answer {
@@ -106,28 +78,22 @@ fn operation(image: &mut [u8], journal: Option<&mut [u8]>, record: &[u8], events
     let (i, il) = (image.as_mut_ptr(), image.len());
     let (r, rl) = (record.as_ptr(), record.len());
     let (e, el) = (events.as_mut_ptr(), events.len());
-    let v = value.as_mut_ptr();
     // Each pointer stands with the length of the list that it points into, and no two lists overlap.
     let number = unsafe {
         match journal {
-            Some(j) => token_vault_call(i, il, j.as_mut_ptr(), j.len(), r, rl, e, el, v, &mut count),
-            None => token_vault_call_without_journal(i, il, r, rl, e, el, v, &mut count),
+            Some(j) => token_vault_call(i, il, j.as_mut_ptr(), j.len(), r, rl, e, el, &mut value, &mut count),
+            None => token_vault_call_without_journal(i, il, r, rl, e, el, &mut value, &mut count),
         }
     };
     Numbers { number, value, count }
 }
 
 fn transaction(image: &mut [u8], journal: &mut [u8], call: &Call) -> u32 {
-    let (i, il) = (image.as_mut_ptr(), image.len());
-    let (j, jl) = (journal.as_mut_ptr(), journal.len());
-    // As above.
-    unsafe {
-        match call {
-            Call::Begin => token_vault_begin(i, il, j, jl),
-            Call::Commit => token_vault_commit(i, il, j, jl),
-            Call::Rollback => token_vault_rollback(i, il, j, jl),
-            Call::Undo => token_vault_undo(i, il, j, jl),
-            Call::Operation { .. } => unreachable!("an operation is no transaction call"),
-        }
+    match call {
+        Call::Begin => token_vault::begin(image, journal),
+        Call::Commit => token_vault::commit(image, journal),
+        Call::Rollback => token_vault::rollback(image, journal),
+        Call::Undo => token_vault::undo(image, journal),
+        Call::Operation { .. } => unreachable!("an operation is no transaction call"),
     }
 }

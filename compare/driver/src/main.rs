@@ -9,9 +9,11 @@ mod scenario;
 mod situation;
 mod sweep;
 mod table;
+mod vectors;
 
 use scenario::{Failure, Run};
 use std::panic::{catch_unwind, resume_unwind, AssertUnwindSafe};
+use std::path::PathBuf;
 use std::process::exit;
 use std::sync::atomic::{AtomicBool, AtomicU64, Ordering};
 use std::time::Instant;
@@ -21,40 +23,43 @@ struct Options {
     seed: u64,
     jobs: u64,
     scenario: Option<u64>,
+    vectors: Option<PathBuf>,
     self_test: bool,
     partial: bool,
 }
 
-const USAGE: &str = "driver [--calls N] [--seed S] [--jobs J] [--scenario N] [--self-test] [--partial]
+const USAGE: &str = "driver [--calls N] [--seed S] [--jobs J] [--scenario N] [--vectors FOLDER] [--self-test] [--partial]
   --calls N     at least so many calls (1000000)
   --seed S      the run's seed (1)
   --jobs J      so many threads (1)
   --scenario N  one scenario of the run alone
+  --vectors F   write the vectors, made by the Rust side alone, to the folder F
   --self-test   plant mistakes in the Rust side's outcome; each has to be found
   --partial     a pair of document 01 that was not reached is no failure";
 
+fn usage() -> ! {
+    eprintln!("{USAGE}");
+    exit(2)
+}
+
+fn number(word: String) -> u64 {
+    word.parse().unwrap_or_else(|_| usage())
+}
+
 fn options() -> Options {
-    let mut o = Options { calls: 1_000_000, seed: 1, jobs: 1, scenario: None, self_test: false, partial: false };
+    let mut o = Options { calls: 1_000_000, seed: 1, jobs: 1, scenario: None, vectors: None, self_test: false, partial: false };
     let mut words = std::env::args().skip(1);
     while let Some(word) = words.next() {
-        let mut number = || match words.next().and_then(|w| w.parse().ok()) {
-            Some(n) => n,
-            None => {
-                eprintln!("{USAGE}");
-                exit(2)
-            }
-        };
+        let mut next = || words.next().unwrap_or_else(|| usage());
         match word.as_str() {
-            "--calls" => o.calls = number(),
-            "--seed" => o.seed = number(),
-            "--jobs" => o.jobs = number().max(1),
-            "--scenario" => o.scenario = Some(number()),
+            "--calls" => o.calls = number(next()),
+            "--seed" => o.seed = number(next()),
+            "--jobs" => o.jobs = number(next()).max(1),
+            "--scenario" => o.scenario = Some(number(next())),
+            "--vectors" => o.vectors = Some(next().into()),
             "--self-test" => o.self_test = true,
             "--partial" => o.partial = true,
-            _ => {
-                eprintln!("{USAGE}");
-                exit(2)
-            }
+            _ => usage(),
         }
     }
     o
@@ -64,6 +69,13 @@ fn main() {
     let o = options();
     if o.self_test {
         self_test(o.seed, o.calls);
+        return;
+    }
+    if let Some(folder) = &o.vectors {
+        if let Err(error) = vectors::write(folder, o.seed) {
+            eprintln!("{}: {error}", folder.display());
+            exit(1);
+        }
         return;
     }
     let mut run = Run::new(o.seed, None);

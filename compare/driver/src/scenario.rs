@@ -29,13 +29,13 @@ pub struct Failure {
     pub difference: Difference,
 }
 
-fn operation(r: &mut Random, image: &[u8]) -> Call {
+pub fn operation(r: &mut Random, image: &[u8]) -> Call {
     let operation = generate::operation(r, image);
     Call::Operation { record: generate::record(r, image, operation), events: generate::events(r) }
 }
 
 /// In a list, so that much is kept.
-fn list_operation(r: &mut Random, image: &[u8]) -> Call {
+pub fn list_operation(r: &mut Random, image: &[u8]) -> Call {
     let operation = generate::operation(r, image);
     let good = image.len() == model::image::LENGTH;
     let record = if good && r.percent(60) { generate::likely_record(r, image, operation) } else { generate::record(r, image, operation) };

@@ -172,6 +172,7 @@ const SITUATIONS: &[(&str, Test)] = &[
     }),
 ];
 
+#[derive(Clone)]
 pub struct Situations(Vec<u64>);
 
 impl Situations {
@@ -179,16 +180,19 @@ impl Situations {
         Situations(vec![0; SITUATIONS.len()])
     }
 
-    /// Counts a call that got past 30 to 33.
-    pub fn count(&mut self, seen: &Seen) {
+    /// Counts a call that got past 30 to 33. Whether one of its situations is new.
+    pub fn count(&mut self, seen: &Seen) -> bool {
         if seen.answer.number >= 30 && seen.answer.number != 34 || seen.before.len() != image::LENGTH {
-            return;
+            return false;
         }
+        let mut is_new = false;
         for (i, (_, test)) in SITUATIONS.iter().enumerate() {
             if test(seen) {
+                is_new |= self.0[i] == 0;
                 self.0[i] += 1;
             }
         }
+        is_new
     }
 
     pub fn join(&mut self, other: &Situations) {

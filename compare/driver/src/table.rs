@@ -5,6 +5,7 @@ pub const NUMBERS: usize = 38;
 const ROWS: usize = 35;
 
 /// Rows 0 to 30 are operations (0: a record that names none), then begin, commit, rollback, undo.
+#[derive(Clone)]
 pub struct Table([[u64; NUMBERS]; ROWS]);
 
 const NAMES: [&str; ROWS] = [
@@ -122,6 +123,18 @@ impl Table {
 
     pub fn count(&mut self, call: &Call, number: u32) {
         self.0[Table::row(call)][number as usize] += 1;
+    }
+
+    /// Whether document 01 has the pair and it was not reached yet.
+    pub fn is_new(&self, call: &Call, number: u32) -> bool {
+        let row = Table::row(call);
+        self.0[row][number as usize] == 0 && wanted(row).contains(&(number as usize))
+    }
+
+    /// The operations, of 1 to 30, with a pair that was not reached yet.
+    pub fn unfinished(&self) -> Vec<u8> {
+        let open = |row: &usize| wanted(*row).iter().any(|number| self.0[*row][*number] == 0);
+        (1..=30).filter(open).map(|row| row as u8).collect()
     }
 
     pub fn join(&mut self, other: &Table) {

@@ -1,5 +1,5 @@
 //! The journal: which are good, what an accepted operation enters, and what undo and rollback put back.
-use crate::bytes::{get16, put, zero};
+use crate::bytes::{get, get16, put, zero};
 use crate::image::{CELL, CELLS};
 
 pub const ENTRY: usize = 24;
@@ -60,7 +60,8 @@ fn set_counts(journal: &mut [u8], calls: usize, entries: usize) {
 
 /// Enters the cells in which `after` differs from `before`, as one call; false, with nothing entered, where there is no room.
 pub fn enter(journal: &mut [u8], before: &[u8], after: &[u8]) -> bool {
-    let changed: Vec<usize> = (0..CELLS).filter(|c| before[CELL * c..CELL * (c + 1)] != after[CELL * c..CELL * (c + 1)]).collect();
+    let (old, new) = (before.as_chunks::<CELL>().0, after.as_chunks::<CELL>().0);
+    let changed: Vec<usize> = (0..CELLS).filter(|c| old[*c] != new[*c]).collect();
     let (calls, entries) = (calls(journal), entries(journal));
     if calls + 1 > MOST_CALLS || entries + changed.len() > places(journal) {
         return false;
@@ -69,7 +70,7 @@ pub fn enter(journal: &mut [u8], before: &[u8], after: &[u8]) -> bool {
         let at = ENTRY * (1 + entries + i);
         put(journal, at, &(*cell as u16).to_le_bytes());
         put(journal, at + 2, &(calls as u16 + 1).to_le_bytes());
-        put(journal, at + 8, &before[CELL * cell..CELL * (cell + 1)]);
+        put(journal, at + 8, &old[*cell]);
     }
     set_counts(journal, calls + 1, entries + changed.len());
     true
@@ -79,7 +80,7 @@ pub fn enter(journal: &mut [u8], before: &[u8], after: &[u8]) -> bool {
 fn put_back_last(image: &mut [u8], journal: &mut [u8]) {
     let last = entries(journal) - 1;
     let cell = get16(entry(journal, last), 0) as usize;
-    let old = entry(journal, last)[8..].to_vec();
+    let old: [u8; CELL] = get(entry(journal, last), 8);
     put(image, CELL * cell, &old);
     journal[ENTRY * (1 + last)..ENTRY * (2 + last)].fill(0);
     set_counts(journal, calls(journal), last);

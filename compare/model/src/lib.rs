@@ -1,5 +1,6 @@
 //! A plain reading of document 01, for what the Rust contract does not have: good images, records and journals,
 //! operations 29 and 30, transactions and undo, the kept list and the book.
+pub mod build;
 pub mod bytes;
 pub mod image;
 pub mod journal;

@@ -39,30 +39,37 @@ fn refused(number: u32, events: Vec<u8>) -> Answer {
 impl Vault {
     /// Makes a call; `operate` gives the operation's own outcome on a good image and a record of good form.
     pub fn call(&mut self, call: &Call, operate: &mut dyn FnMut(&[u8], &[u8]) -> Done) -> Answer {
-        let number = if !image::good(&self.image) {
-            30
-        } else if !journal::good(&self.journal) {
-            31
-        } else {
-            0
-        };
+        match (self.first_refusal(call), call) {
+            (0, Call::Operation { record, .. }) => self.operation(record, operate),
+            (0, _) => refused(self.transaction(call), Vec::new()),
+            (number, Call::Operation { events, .. }) => refused(number, events.clone()),
+            (number, _) => refused(number, Vec::new()),
+        }
+    }
+
+    /// 30 to 33, in this order; 0 where there is none.
+    pub fn first_refusal(&self, call: &Call) -> u32 {
+        if !image::good(&self.image) {
+            return 30;
+        }
+        if !journal::good(&self.journal) {
+            return 31;
+        }
         match call {
-            Call::Operation { record, events } => {
-                let number = match number {
-                    0 if !record::good(record) => 32,
-                    0 if events.len() != record::EVENTS => 33,
-                    n => n,
-                };
-                if number != 0 {
-                    return refused(number, events.clone());
-                }
-                self.operation(record, operate)
-            }
-            _ if number != 0 => refused(number, Vec::new()),
-            Call::Begin => refused(journal::begin(&mut self.journal), Vec::new()),
-            Call::Commit => refused(journal::commit(&mut self.journal), Vec::new()),
-            Call::Rollback => refused(journal::rollback(&mut self.image, &mut self.journal), Vec::new()),
-            Call::Undo => refused(journal::undo(&mut self.image, &mut self.journal), Vec::new()),
+            Call::Operation { record, .. } if !record::good(record) => 32,
+            Call::Operation { events, .. } if events.len() != record::EVENTS => 33,
+            _ => 0,
+        }
+    }
+
+    /// Begin, commit, rollback or undo on a good image and journal.
+    pub fn transaction(&mut self, call: &Call) -> u32 {
+        match call {
+            Call::Begin => journal::begin(&mut self.journal),
+            Call::Commit => journal::commit(&mut self.journal),
+            Call::Rollback => journal::rollback(&mut self.image, &mut self.journal),
+            Call::Undo => journal::undo(&mut self.image, &mut self.journal),
+            Call::Operation { .. } => unreachable!("an operation is no transaction call"),
         }
     }
 

@@ -1,36 +1,12 @@
 //! Document 01's image as host storage and token table, and back.
 use crate::storage::{DataKey, EmergencyMigration, VaultBalanceSnapshot};
-use soroban_sdk::{Address, Env, Host, Leaf, Token, Vec as Values};
+use model::bytes::{amount, get16, get32, get64, put};
+use model::image::LENGTH;
+use soroban_sdk::{Address, Change, Env, Host, Leaf, Token, Vec as Values};
 use std::collections::HashMap;
 
-pub const LENGTH: usize = 36_832;
-
-fn get<const N: usize>(bytes: &[u8], at: usize) -> [u8; N] {
-    bytes[at..at + N].try_into().expect("bytes within the image")
-}
-
-pub fn get16(bytes: &[u8], at: usize) -> u16 {
-    u16::from_le_bytes(get(bytes, at))
-}
-
-pub fn get32(bytes: &[u8], at: usize) -> u32 {
-    u32::from_le_bytes(get(bytes, at))
-}
-
-pub fn get64(bytes: &[u8], at: usize) -> u64 {
-    u64::from_le_bytes(get(bytes, at))
-}
-
-pub fn amount(bytes: &[u8], at: usize) -> i128 {
-    i128::from_le_bytes(get(bytes, at))
-}
-
-fn put(bytes: &mut [u8], at: usize, value: &[u8]) {
-    bytes[at..at + value.len()].copy_from_slice(value);
-}
-
-/// A host that holds what a good image holds; the record gives ledger and signers.
-pub fn load(image: &[u8], record: &[u8]) -> Env {
+/// A host that holds what a good image holds, before any call.
+pub fn load(image: &[u8]) -> Env {
     let mut tokens = [Token { kind: 0, toll: 0, holdings: [0; 64] }; 16];
     for (i, token) in tokens.iter_mut().enumerate() {
         token.kind = image[3680 + 24 * i];
@@ -43,11 +19,12 @@ pub fn load(image: &[u8], record: &[u8]) -> Env {
         instance: HashMap::new(),
         persistent: HashMap::new(),
         temporary: HashMap::new(),
-        timestamp: get64(record, 8),
-        sequence: get32(record, 16),
-        signers: get64(record, 24),
+        timestamp: 0,
+        sequence: 0,
+        signers: 0,
         tokens,
         events: Vec::new(),
+        changes: None,
     });
     load_instance(&env, image);
     load_tables(&env, image);
@@ -142,54 +119,65 @@ pub fn store(env: &Env) -> Vec<u8> {
     image
 }
 
+/// Writes to the image what the host now holds where it was changed.
+pub fn store_changes(env: &Env, changes: &[Change], image: &mut [u8]) {
+    env.with(|host| {
+        for change in changes {
+            match change {
+                Change::Entry { area, key, .. } => match area(host).get(key) {
+                    Some(value) => store_entry(image, key, value),
+                    None => clear_entry(image, key),
+                },
+                Change::Holding { token, account, .. } => {
+                    put(image, 4064 + 1024 * token + 16 * account, &host.tokens[*token].holdings[*account].to_le_bytes())
+                }
+            }
+        }
+    })
+}
+
+/// Sets or clears a bit of the eight bytes at a place.
+fn set_bit(image: &mut [u8], at: usize, bit: u8, on: bool) {
+    let bits = get64(image, at) & !(1 << bit) | (on as u64) << bit;
+    put(image, at, &bits.to_le_bytes());
+}
+
 fn store_entry(image: &mut [u8], key: &[Leaf], value: &[Leaf]) {
-    let mut flag = |bit: u16| {
-        let flags = get16(image, 0) | 1 << bit;
-        put(image, 0, &flags.to_le_bytes());
-    };
+    // The flags are the lowest bits of the first eight bytes.
+    let mut flag = |bit: u8, on: bool| set_bit(image, 0, bit, on);
     use Leaf::{Address as A, Bool, I128, U32, U64};
     match (key, value) {
         ([Leaf::Symbol("Owner")], [A(a)]) => {
-            flag(0);
+            flag(0, true);
             image[2] = *a;
         }
         ([Leaf::Symbol("Token")], [A(a)]) => image[3] = *a,
         ([Leaf::Symbol("MaxLimit")], [I128(v)]) => put(image, 8, &v.to_le_bytes()),
         ([Leaf::Symbol("OwnerProposalTtl")], [U64(v)]) => put(image, 48, &v.to_le_bytes()),
-        ([Leaf::Symbol("Paused")], [Bool(paused)]) => {
-            if *paused {
-                flag(1);
-            }
-        }
+        ([Leaf::Symbol("Paused")], [Bool(paused)]) => flag(1, *paused),
         ([Leaf::Symbol("Operator")], [A(a)]) => {
-            flag(2);
+            flag(2, true);
             image[4] = *a;
         }
         ([Leaf::Symbol("OperatorWithdrawLimit")], [I128(v)]) => {
-            flag(3);
+            flag(3, true);
             put(image, 24, &v.to_le_bytes());
         }
         ([Leaf::Symbol("PendingOwner")], [A(a)]) => {
-            flag(4);
+            flag(4, true);
             image[5] = *a;
         }
         ([Leaf::Symbol("PendingOwnerProposer")], [A(a)]) => image[6] = *a,
         ([Leaf::Symbol("PendingOwnerProposedAt")], [U64(v)]) => put(image, 40, &v.to_le_bytes()),
         ([Leaf::Symbol("EmergencyMigration")], [A(destination), U64(proposed), U64(executable)]) => {
-            flag(5);
+            flag(5, true);
             image[7] = *destination;
             put(image, 56, &proposed.to_le_bytes());
             put(image, 64, &executable.to_le_bytes());
         }
-        ([Leaf::Symbol("ApprovedToken"), A(a)], [Bool(approved)]) => {
-            if *approved {
-                let set = get64(image, 72) | 1 << a;
-                put(image, 72, &set.to_le_bytes());
-            }
-        }
+        ([Leaf::Symbol("ApprovedToken"), A(a)], [Bool(approved)]) => set_bit(image, 72, *a, *approved),
         ([Leaf::Symbol("TokenMaxLimit"), A(a)], [I128(v)]) => {
-            let set = get64(image, 80) | 1 << a;
-            put(image, 80, &set.to_le_bytes());
+            set_bit(image, 80, *a, true);
             put(image, 96 + 16 * *a as usize, &v.to_le_bytes());
         }
         ([Leaf::Symbol("BalanceSnapshot"), A(a)], [U32(ledger), I128(holding)]) => {
@@ -204,6 +192,30 @@ fn store_entry(image: &mut [u8], key: &[Leaf], value: &[Leaf]) {
         }
         ([Leaf::Symbol("TrackedVaultKeys")], [Leaf::Length(n), keys @ ..]) => store_keys(image, *n, keys),
         other => panic!("no place in the image for {other:?}"),
+    }
+}
+
+/// Zeroes the place of an entry that was removed.
+fn clear_entry(image: &mut [u8], key: &[Leaf]) {
+    let [Leaf::Symbol(name)] = key else { panic!("{key:?} is never removed") };
+    match *name {
+        "Operator" => {
+            set_bit(image, 0, 2, false);
+            image[4] = 0;
+        }
+        "PendingOwner" => {
+            set_bit(image, 0, 4, false);
+            image[5] = 0;
+        }
+        "PendingOwnerProposer" => image[6] = 0,
+        "PendingOwnerProposedAt" => image[40..48].fill(0),
+        "EmergencyMigration" => {
+            set_bit(image, 0, 5, false);
+            image[7] = 0;
+            image[56..72].fill(0);
+        }
+        "ReentrancyLock" => {}
+        other => panic!("{other} is never removed"),
     }
 }
 

@@ -2,6 +2,7 @@
 use crate::contract::{DepositSpec, TokenVault};
 use crate::errors::Error;
 use crate::image;
+use model::bytes;
 use soroban_sdk::{Address, Env, Trap, Vec as Values};
 use std::panic::{catch_unwind, AssertUnwindSafe};
 
@@ -22,31 +23,40 @@ fn trap_number(trap: Trap) -> u32 {
 }
 
 pub fn operation(image: &[u8], record: &[u8]) -> Done {
-    let env = image::load(image, record);
-    let called = catch_unwind(AssertUnwindSafe(|| invoke(&env, record)));
-    let result = match called {
+    let env = image::load(image);
+    match run(&env, record) {
+        Ok(value) => Done { number: 0, value, events: events(&env), image: Some(image::store(&env)) },
+        Err(number) => Done { number, value: 0, events: Vec::new(), image: None },
+    }
+}
+
+/// A call on a loaded host, with the record's ledger and signers: the value, or the number of a refusal or trap.
+pub(crate) fn run(env: &Env, record: &[u8]) -> Result<i128, u32> {
+    env.with(|host| {
+        host.timestamp = bytes::get64(record, 8);
+        host.sequence = bytes::get32(record, 16);
+        host.signers = bytes::get64(record, 24);
+        host.events.clear();
+    });
+    match catch_unwind(AssertUnwindSafe(|| invoke(env, record))) {
         Ok(result) => result.map_err(|error| error as u32),
         Err(thrown) => match thrown.downcast::<Trap>() {
             Ok(trap) => Err(trap_number(*trap)),
             Err(panic) => std::panic::resume_unwind(panic),
         },
-    };
-    match result {
-        Ok(value) => Done {
-            number: 0,
-            value,
-            events: env.with(|h| h.events.iter().map(|e| image::event_bytes(&e.topics, &e.data)).collect()),
-            image: Some(image::store(&env)),
-        },
-        Err(number) => Done { number, value: 0, events: Vec::new(), image: None },
     }
+}
+
+/// The events of the last call.
+pub(crate) fn events(env: &Env) -> Vec<[u8; 56]> {
+    env.with(|host| host.events.iter().map(|e| image::event_bytes(&e.topics, &e.data)).collect())
 }
 
 fn invoke(env: &Env, record: &[u8]) -> Result<i128, Error> {
     let address = |at: usize| Address::new(env, record[at]);
     let (caller, token, other) = (|| address(1), || address(2), || address(3));
-    let amount = image::amount(record, 32);
-    let fee = image::amount(record, 48);
+    let amount = bytes::amount(record, 32);
+    let fee = bytes::amount(record, 48);
     let e = env.clone();
     let nothing = |result: Result<(), Error>| result.map(|()| 0);
     match record[0] {
@@ -66,7 +76,7 @@ fn invoke(env: &Env, record: &[u8]) -> Result<i128, Error> {
         14 => nothing(TokenVault::revoke_operator(e, caller())),
         15 => nothing(TokenVault::propose_owner(e, caller(), other())),
         16 => nothing(TokenVault::accept_owner(e, caller())),
-        17 => nothing(TokenVault::set_owner_proposal_ttl(e, caller(), image::get64(record, 32))),
+        17 => nothing(TokenVault::set_owner_proposal_ttl(e, caller(), bytes::get64(record, 32))),
         18 => nothing(TokenVault::pause(e, caller())),
         19 => nothing(TokenVault::unpause(e, caller())),
         20 => nothing(TokenVault::approve_token(e, caller(), token(), record[4] == 1)),
@@ -84,7 +94,7 @@ fn invoke(env: &Env, record: &[u8]) -> Result<i128, Error> {
 
 fn items(env: &Env, record: &[u8]) -> impl Iterator<Item = (Address, i128)> {
     let items: Vec<(Address, i128)> =
-        (0..record[5] as usize).map(|i| 64 + 24 * i).map(|at| (Address::new(env, record[at]), image::amount(record, at + 8))).collect();
+        (0..record[5] as usize).map(|i| 64 + 24 * i).map(|at| (Address::new(env, record[at]), bytes::amount(record, at + 8))).collect();
     items.into_iter()
 }
 

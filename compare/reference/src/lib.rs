@@ -2,7 +2,9 @@
 pub mod errors;
 mod image;
 mod invoke;
+mod loaded;
 
 include!(concat!(env!("OUT_DIR"), "/modules.rs"));
 
 pub use invoke::{operation, Done};
+pub use loaded::{Accepted, Changes, Loaded};

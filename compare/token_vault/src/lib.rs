@@ -6,8 +6,8 @@ pub const RECORD_LENGTH: usize = 448;
 pub const EVENTS_LENGTH: usize = 896;
 pub const JOURNAL_LENGTH_MAX: usize = 48_024;
 
-// The declarations that include/token_vault.h has: a slice is a pointer and a length.
-mod ffi {
+/// The declarations that include/token_vault.h has: a slice is a pointer and a length.
+pub mod ffi {
     extern "C" {
         pub fn token_vault_call(
             image: *mut u8,
@@ -105,56 +105,4 @@ pub fn rollback(image: &mut [u8], journal: &mut [u8]) -> u32 {
 /// Undoes the last call of the transaction.
 pub fn undo(image: &mut [u8], journal: &mut [u8]) -> u32 {
     unsafe { ffi::token_vault_undo(image.as_mut_ptr(), image.len(), journal.as_mut_ptr(), journal.len()) }
-}
-
-/// Images and records put together by their fields, for tests and benchmarks.
-pub mod build {
-    use super::{IMAGE_LENGTH, RECORD_LENGTH};
-
-    pub fn put(bytes: &mut [u8], at: usize, field: &[u8]) {
-        bytes[at..at + field.len()].copy_from_slice(field);
-    }
-
-    /// An image with one moving token, before initialisation.
-    pub fn image_with_token(token: u8) -> Vec<u8> {
-        let mut image = vec![0u8; IMAGE_LENGTH];
-        image[3680 + 24 * (token as usize - 48)] = 1;
-        image
-    }
-
-    pub fn holding_at(token: u8, account: u8) -> usize {
-        4064 + 1024 * (token as usize - 48) + 16 * account as usize
-    }
-
-    pub fn holding(image: &[u8], token: u8, account: u8) -> i128 {
-        let at = holding_at(token, account);
-        i128::from_le_bytes(image[at..at + 16].try_into().unwrap())
-    }
-
-    pub fn set_holding(image: &mut [u8], token: u8, account: u8, amount: i128) {
-        put(image, holding_at(token, account), &amount.to_le_bytes());
-    }
-
-    /// The fields of a record; signed by its caller.
-    #[derive(Clone, Copy, Default)]
-    pub struct Fields {
-        pub operation: u8,
-        pub caller: u8,
-        pub token: u8,
-        pub other: u8,
-        pub flag: u8,
-        pub timestamp: u64,
-        pub sequence: u32,
-        pub amount: i128,
-    }
-
-    pub fn record(fields: Fields) -> Vec<u8> {
-        let mut record = vec![0u8; RECORD_LENGTH];
-        put(&mut record, 0, &[fields.operation, fields.caller, fields.token, fields.other, fields.flag]);
-        put(&mut record, 8, &fields.timestamp.to_le_bytes());
-        put(&mut record, 16, &fields.sequence.to_le_bytes());
-        put(&mut record, 24, &(1u64 << fields.caller).to_le_bytes());
-        put(&mut record, 32, &fields.amount.to_le_bytes());
-        record
-    }
 }

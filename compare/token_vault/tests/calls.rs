@@ -1,6 +1,7 @@
-// All six calls from Rust: what they answer, change and leave alone.
-use token_vault::build::{holding, image_with_token, record, set_holding, Fields};
-use token_vault::{begin, call, call_without_journal, commit, rollback, undo, Answer, EVENTS_LENGTH, IMAGE_LENGTH, JOURNAL_LENGTH_MAX, RECORD_LENGTH};
+//! All six calls from Rust: what they answer, change and leave alone.
+use model::build::{holding, image_with_token, record, set_holding, Fields};
+use token_vault::{begin, call, call_without_journal, commit, rollback, undo};
+use token_vault::{Answer, EVENTS_LENGTH, IMAGE_LENGTH, JOURNAL_LENGTH_MAX, RECORD_LENGTH};
 
 const OWNER: u8 = 2;
 const TOKEN: u8 = 48;

@@ -11,7 +11,7 @@ use lib.ListN.{length, getD, drop, set, length-set}
 use lib.Dec.{ltb}
 use lib.Seq.{drop-cons, drop-length, drop-set-lt, getD-set-same}
 use lib.IntN.{subℕ}
-use borrow.Author.Tests.{leb-true, lt-ltb}
+use borrow.Author.Tests.{leb-true, lt-ltb, le-ltb}
 use mir.Syntax.{w64}
 use mir.Val.{SFits}
 use Rattle.amount.specs.declared.Amount.{Amount}
@@ -19,6 +19,7 @@ use Rattle.amount.specs.Biased.{bias, biasedHigh, biased}
 use Rattle.amount.specs.Laws.{subℕ-lt, subℕ-ge, bias-parts}
 use Rattle.amount.specs.Value.{value, value-biased}
 use Rattle.answer_line.specs.Decimal.{decimal, signed, decimal-digit, decimal-more}
+use Rattle.answer_line.specs.Hexadecimal.{digit, hexadecimal}
 
 -- ---- bytes
 -- a byte written just before index j
@@ -64,6 +65,30 @@ text-step out text t i j p q e g f h w =
 
 pub text-start : (text t : List ℕ) → t ≡ drop (length text) text ++ t
 text-start text t = rw (drop-length text) refl
+
+-- ---- hexadecimal digits
+-- the two digits of the byte at j, written before those of the bytes from i on
+pub hexadecimal-step : (out bytes t : List ℕ) (i j p q : ℕ) → j + 1 ≡ i → i ≤ length bytes → q + 2 ≡ p → p ≤ length out → drop p out ≡ hexadecimal (drop i bytes) ++ t → drop q (set (set out (q + 1) (digit (getD bytes j 0 % 16))) q (digit (getD bytes j 0 / 16))) ≡ hexadecimal (drop j bytes) ++ t
+unfolding hexadecimal
+hexadecimal-step out bytes t i j p q e g f h w =
+    let e′ : suc j ≡ i = sym (add-one j) ∙ e in
+    let u : drop j bytes ≡ getD bytes j 0 ∷ drop i bytes = drop-cons bytes j 0 (omega arith) ∙ ap (λ (k : ℕ). getD bytes j 0 ∷ drop k bytes) e′ in
+    let low = digit (getD bytes j 0 % 16) in
+    let m : q < length (set out (q + 1) low) = rw length-set (omega arith) in
+    before (set out (q + 1) low) q (q + 1) (digit (getD bytes j 0 / 16)) refl m
+    ∙ rw (before out (q + 1) p low (omega arith) (omega arith), w, u)
+
+pub hexadecimal-start : (bytes t : List ℕ) → t ≡ hexadecimal (drop (length bytes) bytes) ++ t
+unfolding hexadecimal
+hexadecimal-start bytes t = rw (drop-length bytes) refl
+
+pub small-digit : (x : ℕ) → x < 10 → 48 + x ≡ digit x
+unfolding digit
+small-digit x h = rw (lt-ltb x 10 h) refl
+
+pub large-digit : (x : ℕ) → 10 ≤ x → 87 + x ≡ digit x
+unfolding digit
+large-digit x h = rw (le-ltb x 10 h) refl
 
 -- ---- a number in two halves
 pub positive-high : (h l : ℕ) → 0 < h → true ≡ ltb 0 (h * 2 ^ 64 + l)

@@ -30,8 +30,12 @@ valueText = 32 ∷ 118 ∷ 97 ∷ 108 ∷ 117 ∷ 101 ∷ 61 ∷ []
 unfoldable pub eventsText : List ℕ
 eventsText = 32 ∷ 101 ∷ 118 ∷ 101 ∷ 110 ∷ 116 ∷ 115 ∷ 61 ∷ []
 
+-- an answer in words, and t after it
+unfoldable pub answerWords : (number : ℕ) (value : ℤ) (events : ℕ) (t : List ℕ) → List ℕ
+answerWords number value events t = answerText ++ (decimal number ++ (valueText ++ (signed value ++ (eventsText ++ (decimal events ++ t)))))
+
 unfoldable pub line : (number : ℕ) (value : ℤ) (events : ℕ) → List ℕ
-line number value events = answerText ++ (decimal number ++ (valueText ++ (signed value ++ (eventsText ++ (decimal events ++ (10 ∷ []))))))
+line number value events = answerWords number value events (10 ∷ [])
 
 -- ---- laws
 -- any number of divisions from q on gives the same digits

@@ -1,4 +1,4 @@
-// The line that is printed for an answer. Text is written from the end of a buffer towards its start: each function puts its bytes before index `at`, and returns where they begin.
+// The line that is printed for an answer, and bytes in hexadecimal digits. Text is written from the end of a buffer towards its start: each function puts its bytes before index `at`, and returns where they begin.
 use amount::Amount;
 ghost use mathlib.Core.Path.{_≡_};
 ghost use mathlib.Core.List.{_∷_, _++_};
@@ -6,7 +6,8 @@ ghost use Prim.Native.Nat.{_+_, _*_, _^_, _<_, _≤_};
 ghost use lib.Dec.{ltb};
 ghost use lib.ListN.{length, drop};
 ghost use Rattle.amount.specs.Value.{value};
-ghost use Rattle.answer_line.specs.Decimal.{decimal, signed, line};
+ghost use Rattle.answer_line.specs.Decimal.{decimal, signed, answerWords, line};
+ghost use Rattle.answer_line.specs.Hexadecimal.{digit, hexadecimal};
 
 const HALF: u64 = 9223372036854775808;
 
@@ -58,7 +59,7 @@ fn write_decimal(out: &mut [u8], at: usize, hi: u64, lo: u64) -> usize
     }
 }
 
-fn write_text(out: &mut [u8], at: usize, text: &[u8]) -> usize
+pub fn write_text(out: &mut [u8], at: usize, text: &[u8]) -> usize
     requires { ⌜ (length (now text) ≤ at) × (at ≤ length (now out)) ⌝ }
     ensures { λ r. ⌜ (drop r (now (out .exit)) ≡ now (text .entry) ++ drop at (now (out .entry))) × (r + length (now (text .entry)) ≡ at) ⌝ }
 {
@@ -102,15 +103,50 @@ fn write_signed(out: &mut [u8], at: usize, v: Amount) -> usize
     )
 }
 
-// The line stands in `out` from the index that is returned to the end.
-pub fn write_line(out: &mut [u8; 160], number: u32, v: Amount, events: u32) -> usize
-    ensures { λ r. ⌜ (drop r (now (out .exit)) ≡ line number (value v) events) × (r ≤ 160) ⌝ }
+// A line without its end: at most 140 bytes.
+pub fn write_answer(out: &mut [u8], at: usize, number: u32, v: Amount, events: u32) -> usize
+    requires { ⌜ (140 ≤ at) × (at ≤ length (now out)) ⌝ }
+    ensures { λ r. ⌜ (drop r (now (out .exit)) ≡ answerWords number (value v) events (drop at (now (out .entry)))) × (r ≤ at) ⌝ }
 {
-    let a = write_text(out, 160, b"\n");
-    let b = write_decimal(out, a, 0, events as u64);
+    let b = write_decimal(out, at, 0, events as u64);
     let c = write_text(out, b, b" events=");
     let d = write_signed(out, c, v);
     let e = write_text(out, d, b" value=");
     let f = write_decimal(out, e, 0, number as u64);
     write_text(out, f, b"answer=")
+}
+
+// The line stands in `out` from the index that is returned to the end.
+pub fn write_line(out: &mut [u8; 160], number: u32, v: Amount, events: u32) -> usize
+    ensures { λ r. ⌜ (drop r (now (out .exit)) ≡ line number (value v) events) × (r ≤ 160) ⌝ }
+{
+    let a = write_text(out, 160, b"\n");
+    write_answer(out, a, number, v, events)
+}
+
+fn hexadecimal_digit(x: u8) -> u8
+    requires { ⌜ x < 16 ⌝ }
+    ensures { λ r. ⌜ r ≡ digit x ⌝ }
+{
+    if x < 10 {
+        return 48 + x;
+    }
+    87 + x
+}
+
+// Two digits a byte.
+pub fn write_hexadecimal(out: &mut [u8], at: usize, bytes: &[u8]) -> usize
+    requires { ⌜ (2 * length (now bytes) ≤ at) × (at ≤ length (now out)) ⌝ }
+    ensures { λ r. ⌜ (drop r (now (out .exit)) ≡ hexadecimal (now (bytes .entry)) ++ drop at (now (out .entry))) × (r + 2 * length (now (bytes .entry)) ≡ at) ⌝ }
+{
+    let mut i = bytes.len();
+    let mut p = at;
+    while i > 0 {
+        i -= 1;
+        p -= 2;
+        let b = bytes[i];
+        out[p + 1] = hexadecimal_digit(b % 16);
+        out[p] = hexadecimal_digit(b / 16);
+    }
+    p
 }

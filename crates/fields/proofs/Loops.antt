@@ -58,5 +58,5 @@ copy-step s d i hs hd e = rw (add-one, take-suc-set d i (getD s i 0) hd, take-su
 pub copy-done : (s d : List ℕ) (i : ℕ) → length d ≡ length s → length s ≤ i → take i d ≡ take i s → d ≡ s
 copy-done s d i l h e = sym (take-all i d (rw l h)) ∙ e ∙ take-all i s h
 
-pub clear-done : (s d : List ℕ) (i : ℕ) → i ≤ length d → length d ≤ i → s ≡ replicate i 0 ++ drop i d → s ≡ replicate (length d) 0
-clear-done s d i h k e = let q : length d ≡ i = omega arith in e ∙ rw (drop-of-length-le d k, append-nil, q)
+pub fill-done : (s d : List ℕ) (i x : ℕ) → i ≤ length d → length d ≤ i → s ≡ replicate i x ++ drop i d → s ≡ replicate (length d) x
+fill-done s d i x h k e = let q : length d ≡ i = omega arith in e ∙ rw (drop-of-length-le d k, append-nil, q)

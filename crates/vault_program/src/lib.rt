@@ -8,7 +8,7 @@ ghost use lib.ListN.{drop};
 ghost use Rattle.amount.specs.Value.{value};
 ghost use Rattle.vault_program.specs.Program.{signedAt, recordStep, Prints};
 
-fn read_value(bytes: &[u8; 16]) -> Amount
+pub fn read_value(bytes: &[u8; 16]) -> Amount
     ensures { λ r. ⌜ value r ≡ signedAt (now (bytes .entry)) ⌝ }
 {
     amount::read_amount(bytes, 0)

@@ -1,4 +1,4 @@
-//! The host of one call: storage, ledger, signer set, token table, events; and the handles that the contract gets.
+//! The host: storage, ledger, signer set, token table, events; and the handles that the contract gets.
 use crate::value::{Leaf, Value};
 use std::cell::RefCell;
 use std::collections::HashMap;
@@ -6,6 +6,7 @@ use std::fmt;
 use std::rc::Rc;
 
 pub type Map = HashMap<Vec<Leaf>, Vec<Leaf>>;
+pub type Area = fn(&mut Host) -> &mut Map;
 
 /// Document 01: an address is a byte below 64; 1 is the vault; tokens stand at 48 to 63.
 pub const VAULT: u8 = 1;
@@ -24,6 +25,12 @@ pub struct Event {
     pub data: Vec<Leaf>,
 }
 
+/// A place that a call wrote to, and what stood there.
+pub enum Change {
+    Entry { area: Area, key: Vec<Leaf>, old: Option<Vec<Leaf>> },
+    Holding { token: usize, account: usize, old: i128 },
+}
+
 pub struct Host {
     pub instance: Map,
     pub persistent: Map,
@@ -33,6 +40,8 @@ pub struct Host {
     pub signers: u64,
     pub tokens: [Token; 16],
     pub events: Vec<Event>,
+    /// What calls have changed, if the host is to note it.
+    pub changes: Option<Vec<Change>>,
 }
 
 /// One host trap to the contract's caller; the cause is known here only.
@@ -51,14 +60,43 @@ impl Host {
     /// A transfer by document 01: fails on an absent or frozen token, a sender short of the amount, a receiver passing
     /// 2^127 - 1. The sender loses the amount first; the receiver gets it less the toll, never below 0.
     pub(crate) fn transfer(&mut self, token: u8, from: u8, to: u8, amount: i128) -> Result<(), ()> {
+        let slot = token.wrapping_sub(FIRST_TOKEN) as usize;
         let token = self.token(token).filter(|t| t.kind == 1).ok_or(())?;
-        let mut holdings = token.holdings;
-        let left = holdings[from as usize].checked_sub(amount).filter(|left| *left >= 0).ok_or(())?;
-        holdings[from as usize] = left;
+        let (from, to) = (from as usize, to as usize);
+        let old = [from, to].map(|account| Change::Holding { token: slot, account, old: token.holdings[account] });
+        let left = token.holdings[from].checked_sub(amount).filter(|left| *left >= 0).ok_or(())?;
+        let held = if to == from { left } else { token.holdings[to] };
         let received = amount.checked_sub(token.toll).unwrap_or(0).max(0);
-        holdings[to as usize] = holdings[to as usize].checked_add(received).ok_or(())?;
-        token.holdings = holdings;
+        let after = held.checked_add(received).ok_or(())?;
+        token.holdings[from] = left;
+        token.holdings[to] = after;
+        if let Some(changes) = &mut self.changes {
+            changes.extend(old);
+        }
         Ok(())
+    }
+
+    /// Stores a value, or removes it.
+    fn put(&mut self, area: Area, key: Vec<Leaf>, value: Option<Vec<Leaf>>) {
+        let noted = self.changes.is_some().then(|| key.clone());
+        let old = match value {
+            Some(value) => area(self).insert(key, value),
+            None => area(self).remove(&key),
+        };
+        if let (Some(changes), Some(key)) = (&mut self.changes, noted) {
+            changes.push(Change::Entry { area, key, old });
+        }
+    }
+
+    /// Takes changes back, the last one first.
+    pub fn take_back(&mut self, changes: Vec<Change>) {
+        for change in changes.into_iter().rev() {
+            match change {
+                Change::Entry { area, key, old: Some(value) } => drop(area(self).insert(key, value)),
+                Change::Entry { area, key, old: None } => drop(area(self).remove(&key)),
+                Change::Holding { token, account, old } => self.tokens[token].holdings[account] = old,
+            }
+        }
     }
 
     /// A token that is not absent.
@@ -158,7 +196,7 @@ impl Storage {
 
 pub struct StorageArea {
     env: Env,
-    area: fn(&mut Host) -> &mut Map,
+    area: Area,
 }
 
 impl StorageArea {
@@ -171,11 +209,11 @@ impl StorageArea {
     }
 
     pub fn set<K: Value, V: Value>(&self, key: &K, value: &V) {
-        self.env.with(|h| (self.area)(h).insert(key.leaves(), value.leaves()));
+        self.env.with(|h| h.put(self.area, key.leaves(), Some(value.leaves())));
     }
 
     pub fn remove<K: Value>(&self, key: &K) {
-        self.env.with(|h| (self.area)(h).remove(&key.leaves()));
+        self.env.with(|h| h.put(self.area, key.leaves(), None));
     }
 }
 

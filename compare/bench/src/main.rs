@@ -1,0 +1,111 @@
+//! Calls a second of the vault beside the contract's Rust: the sides in turn, on the same calls, in one run.
+mod cases;
+mod sides;
+
+use cases::Case;
+use sides::Side;
+use std::process::exit;
+use std::time::{Duration, Instant};
+use token_vault::Answer;
+
+const USAGE: &str = "bench [--quick]
+  --quick  compare the sides on every case and time nothing";
+const NAMES: [&str; 3] = ["the vault", "the Rust on a host kept loaded", "the Rust on a host loaded for each call"];
+/// A round of one side, and the rounds of a case: so long, and so many at least.
+const ROUND: Duration = Duration::from_millis(1);
+const CASE: Duration = Duration::from_millis(600);
+const ROUNDS: usize = 10;
+
+fn main() {
+    let words: Vec<String> = std::env::args().skip(1).collect();
+    let quick = match &words[..] {
+        [] => false,
+        [word] if word == "--quick" => true,
+        _ => {
+            eprintln!("{USAGE}");
+            exit(2)
+        }
+    };
+    if !quick {
+        head();
+    }
+    let mut cases = 0;
+    for (kind, image) in [("sparse image", cases::sparse_image()), ("full image", cases::full_image())] {
+        if !quick {
+            println!("{kind}");
+        }
+        for case in cases::all() {
+            cases += 1;
+            let mut sides = sides::all(&image, case.journal.as_deref());
+            let answers = agree(&case, &mut sides);
+            if !quick {
+                let best = time(&case, &mut sides, &answers);
+                line(case.name, best);
+            }
+        }
+    }
+    if quick {
+        println!("bench: {cases} cases, the vault and the Rust agree in answers, events, images and journals");
+    } else {
+        println!("the best of all rounds of {} ms, the sides in turn, for {} ms a case", ROUND.as_millis(), CASE.as_millis());
+    }
+}
+
+/// Makes the calls of a case three times at each side, which have to agree after every call; the answers of the last time.
+fn agree(case: &Case, sides: &mut [Box<dyn Side>; 3]) -> Vec<Answer> {
+    let thrice = (0..3).flat_map(|_| &case.calls);
+    let mut answers = Vec::new();
+    for (i, call) in case.before.iter().chain(thrice).enumerate() {
+        let found: Vec<Answer> = sides.iter_mut().map(|side| side.call(call)).collect();
+        for (name, side) in [1, 2].map(|n| (NAMES[n], n)) {
+            assert_eq!(found[0], found[side], "{}: call {i}, answers of the vault and of {name}", case.name);
+            assert!(sides[0].held() == sides[side].held(), "{}: call {i}, bytes of the vault and of {name}", case.name);
+        }
+        answers.push(found[0]);
+    }
+    answers.split_off(answers.len() - case.calls.len())
+}
+
+/// Calls a second of each side: the best of rounds in turn. Every answer is compared with the one that the sides agreed on.
+fn time(case: &Case, sides: &mut [Box<dyn Side>; 3], answers: &[Answer]) -> [f64; 3] {
+    let mut best = [0f64; 3];
+    let start = Instant::now();
+    let mut rounds = 0;
+    while rounds < ROUNDS || start.elapsed() < CASE {
+        for (side, best) in sides.iter_mut().zip(&mut best) {
+            *best = best.max(round(case, side.as_mut(), answers));
+        }
+        rounds += 1;
+    }
+    best
+}
+
+fn round(case: &Case, side: &mut dyn Side, answers: &[Answer]) -> f64 {
+    // So many times between two looks at the clock: a look takes as long as a tenth of the shortest call.
+    let mut times = 1;
+    let start = Instant::now();
+    let mut calls = 0;
+    loop {
+        for _ in 0..times {
+            for (call, answer) in case.calls.iter().zip(answers) {
+                assert!(side.call(call) == *answer, "{}: another answer than before", case.name);
+            }
+        }
+        calls += times * case.calls.len();
+        let passed = start.elapsed();
+        if passed >= ROUND {
+            return calls as f64 / passed.as_secs_f64();
+        }
+        times = (2 * times).min(32);
+    }
+}
+
+fn head() {
+    println!("{:54}{:>8}{:>9}{:>11}{:>8}{:>11}{:>8}", "", "vault", "vault", "Rust, host", "vault /", "Rust, host", "vault /");
+    println!("{:54}{:>8}{:>9}{:>11}{:>8}{:>11}{:>8}", "", "us/call", "calls/s", "kept", "Rust", "loaded", "Rust");
+}
+
+fn line(name: &str, [vault, kept, loaded]: [f64; 3]) {
+    let (us, to_kept, to_loaded) = (1e6 / vault, vault / kept, vault / loaded);
+    println!("  {name:52}{us:8.2}{vault:9.0}{kept:11.0}{to_kept:8.2}{loaded:11.0}{to_loaded:8.1}");
+}

@@ -1,0 +1,156 @@
+//! The three sides that are timed. Each keeps its own image, journal and event buffer.
+use model::vault::{Call, Done, Vault};
+use model::{journal, record};
+use reference::{Changes, Loaded};
+use token_vault::{begin, call, call_without_journal, commit, rollback, undo, Answer};
+
+/// What a side holds after a call.
+#[derive(PartialEq, Eq)]
+pub struct Held<'a> {
+    pub image: &'a [u8],
+    /// Of a case with a journal.
+    pub journal: Option<&'a [u8]>,
+    pub events: &'a [u8],
+}
+
+pub trait Side {
+    fn call(&mut self, call: &Call) -> Answer;
+    fn held(&self) -> Held<'_>;
+}
+
+/// The three, from one image; with no journal, only operations are called.
+pub fn all(image: &[u8], journal: Option<&[u8]>) -> [Box<dyn Side>; 3] {
+    let start = Vault { image: image.to_vec(), journal: journal.unwrap_or(&[0; 48]).to_vec() };
+    let with_journal = journal.is_some();
+    let events = vec![0; record::EVENTS];
+    [
+        Box::new(Library { vault: start.clone(), with_journal, events: events.clone() }),
+        Box::new(KeptHost { host: Loaded::new(image), vault: start.clone(), with_journal, events: events.clone(), calls: Vec::new() }),
+        Box::new(NewHost { vault: start, with_journal, events }),
+    ]
+}
+
+fn held<'a>(vault: &'a Vault, with_journal: bool, events: &'a [u8]) -> Held<'a> {
+    Held { image: &vault.image, journal: with_journal.then_some(&vault.journal[..]), events }
+}
+
+fn plain(number: u32) -> Answer {
+    Answer { number, value: 0, events: 0 }
+}
+
+/// The vault, through the C library.
+struct Library {
+    vault: Vault,
+    with_journal: bool,
+    events: Vec<u8>,
+}
+
+impl Side for Library {
+    fn call(&mut self, called: &Call) -> Answer {
+        let Vault { image, journal } = &mut self.vault;
+        match called {
+            Call::Operation { record, .. } if self.with_journal => call(image, journal, record, &mut self.events),
+            Call::Operation { record, .. } => call_without_journal(image, record, &mut self.events),
+            Call::Begin => plain(begin(image, journal)),
+            Call::Commit => plain(commit(image, journal)),
+            Call::Rollback => plain(rollback(image, journal)),
+            Call::Undo => plain(undo(image, journal)),
+        }
+    }
+
+    fn held(&self) -> Held<'_> {
+        held(&self.vault, self.with_journal, &self.events)
+    }
+}
+
+/// The Rust contract on a host that is loaded from the image and stored back for each operation, as the comparison runs it.
+struct NewHost {
+    vault: Vault,
+    with_journal: bool,
+    events: Vec<u8>,
+}
+
+impl Side for NewHost {
+    fn call(&mut self, called: &Call) -> Answer {
+        let mut operate = |image: &[u8], record: &[u8]| {
+            let done = reference::operation(image, record);
+            Done { number: done.number, value: done.value, events: done.events, image: done.image.unwrap_or_default() }
+        };
+        let answer = self.vault.call(called, &mut operate);
+        if matches!(called, Call::Operation { .. }) {
+            self.events = answer.events;
+        }
+        Answer { number: answer.number, value: answer.value, events: answer.count }
+    }
+
+    fn held(&self) -> Held<'_> {
+        held(&self.vault, self.with_journal, &self.events)
+    }
+}
+
+/// The Rust contract on a host that stays loaded. The image is kept too: each call tests it, and an accepted one writes to it
+/// what it changed in the host.
+struct KeptHost {
+    host: Loaded,
+    vault: Vault,
+    with_journal: bool,
+    events: Vec<u8>,
+    /// What each call of the open transaction changed in the host.
+    calls: Vec<Changes>,
+}
+
+impl KeptHost {
+    fn operation(&mut self, record: &[u8]) -> Answer {
+        self.events.fill(0);
+        let done = match self.host.operation(record) {
+            Ok(done) => done,
+            Err(number) => return plain(number),
+        };
+        let Vault { image, journal } = &mut self.vault;
+        if journal::is_open(journal) && !record::is_view(record[0]) {
+            let before = image.clone();
+            self.host.store(&done.changes, image);
+            if !journal::enter(journal, &before, image) {
+                *image = before;
+                self.host.take_back(done.changes);
+                return plain(34);
+            }
+            self.calls.push(done.changes);
+        } else {
+            self.host.store(&done.changes, image);
+        }
+        for (place, event) in self.events.chunks_mut(56).zip(&done.events) {
+            place.copy_from_slice(event);
+        }
+        Answer { number: 0, value: done.value, events: done.events.len() as u32 }
+    }
+
+    fn transaction(&mut self, called: &Call) -> u32 {
+        let number = self.vault.transaction(called);
+        match called {
+            _ if number != 0 => {}
+            Call::Undo => self.host.take_back(self.calls.pop().expect("a call to undo")),
+            Call::Rollback => {
+                while let Some(changes) = self.calls.pop() {
+                    self.host.take_back(changes);
+                }
+            }
+            _ => self.calls.clear(),
+        }
+        number
+    }
+}
+
+impl Side for KeptHost {
+    fn call(&mut self, called: &Call) -> Answer {
+        match (self.vault.first_refusal(called), called) {
+            (0, Call::Operation { record, .. }) => self.operation(record),
+            (0, _) => plain(self.transaction(called)),
+            (number, _) => plain(number),
+        }
+    }
+
+    fn held(&self) -> Held<'_> {
+        held(&self.vault, self.with_journal, &self.events)
+    }
+}

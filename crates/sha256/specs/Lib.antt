@@ -1,0 +1,3 @@
+-- What the contracts cite.
+pub mod Sha256
+pub mod Examples
