@@ -248,6 +248,6 @@ pub fn write(folder: &Path, seed: u64) -> std::io::Result<()> {
     std::fs::create_dir_all(folder)?;
     std::fs::write(folder.join("stdin"), &bytes)?;
     std::fs::write(folder.join("stdout"), &lines)?;
-    println!("{} lists, {calls} calls, {} bytes", lists.len(), bytes.len());
+    println!("vectors: {} lists, {calls} calls, {} bytes", lists.len(), bytes.len());
     Ok(())
 }
