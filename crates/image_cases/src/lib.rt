@@ -1,1 +1,1 @@
-// Closed images on which `goodImage` is computed: definitions only, in specs/.
+// Closed images that `goodImage` takes or refuses: definitions only, in specs/.

@@ -72,7 +72,7 @@ fn try_byte(image: &mut [u8], at: usize, byte: u8)
     fields::put8(image, at, old);
 }
 
-// Flags, addresses, limits, pending owner and migration; any approved set is good.
+// Flags and addresses; limits, pending owner and migration; any approved set is good.
 fn head(image: &mut [u8])
     requires { ⌜ length (now image) ≡ 36832 ⌝ }
 {
@@ -81,20 +81,32 @@ fn head(image: &mut [u8])
     try_byte(image, 3, 49);
     try_byte(image, 5, 1);
     try_byte(image, 7, 1);
+}
+
+fn limits(image: &mut [u8])
+    requires { ⌜ length (now image) ≡ 36832 ⌝ }
+{
     try_byte(image, 23, 128);
     try_byte(image, 24, 0);
     try_byte(image, 40, 1);
     try_byte(image, 64, 1);
+    try_byte(image, 72, 1);
+    end();
 }
 
-// Capped set, reserved bytes, a cap, snapshots (a negative one is good), keys.
-fn middle(image: &mut [u8])
+// Capped set, reserved bytes, a cap; snapshots (a negative one is good), keys.
+fn caps(image: &mut [u8])
     requires { ⌜ length (now image) ≡ 36832 ⌝ }
 {
     try_byte(image, 80, 32);
     try_byte(image, 90, 1);
     try_byte(image, 160, 0);
     try_byte(image, 1120, 2);
+}
+
+fn snapshots(image: &mut [u8])
+    requires { ⌜ length (now image) ≡ 36832 ⌝ }
+{
     try_byte(image, 1143, 128);
     try_byte(image, 1144, 1);
     try_byte(image, 1505, 5);
@@ -102,7 +114,7 @@ fn middle(image: &mut [u8])
     end();
 }
 
-// Kinds, tolls, holdings and credits of a present token and of an absent one.
+// Kinds and tolls; holdings and credits of a present token and of an absent one.
 fn tokens(image: &mut [u8])
     requires { ⌜ length (now image) ≡ 36832 ⌝ }
 {
@@ -110,30 +122,55 @@ fn tokens(image: &mut [u8])
     try_byte(image, 3681, 1);
     try_byte(image, 3703, 128);
     try_byte(image, 3712, 1);
+}
+
+fn holdings(image: &mut [u8])
+    requires { ⌜ length (now image) ≡ 36832 ⌝ }
+{
     try_byte(image, 4095, 128);
     try_byte(image, 20511, 128);
     try_byte(image, 5088, 1);
     try_byte(image, 21472, 1);
     try_byte(image, 36831, 1);
+    try_byte(image, 3680, 2);
+    end();
+}
+
+// An image of zeros, and a part of it.
+fn empty(image: &mut [u8])
+    requires { ⌜ length (now image) ≡ 36832 ⌝ }
+{
+    show(image::good_image(image));
+    show(image::good_image(&image[0..36831]));
+    show(image::good_image(&image[0..0]));
+    try_byte(image, 72, 1);
+    end();
+}
+
+fn fill(image: &mut [u8])
+    requires { ⌜ length (now image) ≡ 36832 ⌝ }
+{
+    fill_head(image);
+    fill_middle(image);
+    fill_tokens(image);
+    show(image::good_image(image));
+    end();
+}
+
+fn damage(image: &mut [u8])
+    requires { ⌜ length (now image) ≡ 36832 ⌝ }
+{
+    head(image);
+    limits(image);
+    caps(image);
+    snapshots(image);
+    tokens(image);
+    holdings(image);
 }
 
 fn main() {
     let mut image = [0u8; 36832];
-    show(image::good_image(&image));
-    show(image::good_image(&image[0..36831]));
-    show(image::good_image(&image[0..0]));
-    try_byte(&mut image, 72, 1);
-    end();
-    fill_head(&mut image);
-    fill_middle(&mut image);
-    fill_tokens(&mut image);
-    show(image::good_image(&image));
-    end();
-    head(&mut image);
-    try_byte(&mut image, 72, 1);
-    end();
-    middle(&mut image);
-    tokens(&mut image);
-    try_byte(&mut image, 3680, 2);
-    end();
+    empty(&mut image);
+    fill(&mut image);
+    damage(&mut image);
 }

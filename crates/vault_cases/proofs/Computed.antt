@@ -1,8 +1,8 @@
 -- What the operations of the cases give by their own rules, computed.
-use mathlib.Core.Path.{_≡_, refl}
-use mathlib.Core.Bool.{true}
-use mathlib.Core.List.{List}
+use mathlib.Core.Path.{_≡_, refl, _∙_}
+use mathlib.Core.List.{List, _∷_}
 use Prim.Native.Nat.{ℕ, _+_, _-_, _^_}
+use lib.ListN.{replicate, drop}
 use Rattle.fields.specs.Logic.{_and_, _or_, all}
 use Rattle.fields.specs.Bytes.{le, put, bytes}
 use Rattle.fields.specs.Rules.{verdict, chain, orElse}
@@ -11,8 +11,7 @@ use Rattle.record.specs.Form.{member, readsCaller, readsToken, readsOther, read
 use Rattle.events.specs.Kinds.{operatorWithdrawLimitSetEvent}
 use Rattle.checks.specs.Checks.{flag, inSet, pausedNumber, signedNumber, initialisedNumber, notOwnerNumber, ownerNumber, insider, notInsiderNumber, sharedNumber, amountNumber, maxVaultDeposit, depositAmountNumber, approvedNumber, limitNumber, capNumber, fundsNumber}
 use Rattle.image.specs.Layout.{credit}
-use Rattle.image.specs.Good.{notNegativeHere, notNegatives, aboveWhere, goodAddresses, goodDefaults, goodPending, goodMigration, goodOptions, goodHead, goodCap, tracked, freshKey, goodKeys, goodSnapshot, goodAbsent, goodPresent, goodToken, goodImage}
-use Rattle.fields.specs.Zeros.{each, zeroHere, zeros}
+use Rattle.image.specs.Good.{tracked}
 use Rattle.fields.specs.Same.{sameBytes}
 use Rattle.storage.specs.Setters.{trackKey, setCredit, recordBalance, snapshotNumber}
 use Rattle.token.specs.Token.{absentNumber, arrives, debited, received, transferNumber, transferOf}
@@ -26,7 +25,7 @@ use Rattle.migration.specs.Migration.{proposalNumber, initiateNumber, initiateO
 use Rattle.views.specs.Views.{compliantNumber, compliantOutcome}
 use Rattle.token_vault.specs.Vault.{outcomeOf, view}
 use Rattle.vault_cases.specs.Paper.{request, requestOf, deposits, depositsIn, depositsWithFee, depositsToken, paysTo, paysTwo, limitsOperator, setsLimit, pauses, proposes, acceptsAt, initiates, executesAt, asksCompliance}
-use Rattle.vault_cases.proofs.Runs.{Accepts, Refuses, Views, differing}
+use Rattle.vault_cases.proofs.Runs.{Accepts, Refuses, Views, differing, differing-front}
 use Rattle.vault_cases.proofs.Flat.{imageOf, paperBytes, paidBytes, depositedBytes, migratedBytes, credited, noCredit, creditOfTen, creditFull}
 
 pub pays-40-60 : (z : List ℕ) → Accepts (paperBytes z) (paysTwo 2 40 60) 0 2
@@ -166,9 +165,13 @@ pub paid : (z : List ℕ) → outcomeOf (paperBytes z) (paysTo 4 5) .image ≡ p
 unfolding imageOf request requestOf paysTo withdrawOutcome payoutsImage payImage recordBalance arrives debited received transferOf outcomeOf verdict chain orElse all _and_ _or_ bias amountAt putAmount put le
 paid z = refl
 
+deposited-before : (w : List ℕ) → outcomeOf (paperBytes (credited (replicate 16 0) w)) (depositsIn 7 10) .image ≡ depositedBytes (credited (10 ∷ replicate 15 0) w)
+unfolding imageOf credited request requestOf depositsIn depositOutcome depositImage addCredit setCredit trackKey tracked recordBalance arrives debited received transferOf outcomeOf verdict chain orElse all _and_ _or_ bias amountAt putAmount put le
+deposited-before w = refl
+
 pub deposited : outcomeOf (paperBytes noCredit) (depositsIn 7 10) .image ≡ depositedBytes creditOfTen
-unfolding imageOf noCredit creditOfTen credited request requestOf depositsIn depositOutcome depositImage addCredit setCredit trackKey tracked recordBalance arrives debited received transferOf outcomeOf verdict chain orElse all _and_ _or_ bias amountAt putAmount put le
-deposited = refl
+unfolding noCredit creditOfTen
+deposited = deposited-before (replicate 16336 0)
 
 pub migrated : (z : List ℕ) → outcomeOf (outcomeOf (depositedBytes z) (initiates 4) .image) (executesAt 172800) .image ≡ migratedBytes z
 unfolding imageOf request requestOf initiates initiateOutcome initiateNumber proposalNumber executesAt executeOutcome executeNumber executeChecks noMigrationNumber earlyNumber migrateNumber migrateHolding clearMigration arrives debited received transferOf outcomeOf verdict chain orElse all _and_ _or_ bias amountAt putAmount put le
@@ -179,10 +182,13 @@ unfolding imageOf creditFull credited request requestOf depositOutcome depositIm
 credit-kept = refl
 
 -- ---- the cells that a payout changes
-pub three-cells : differing 2302 (paperBytes noCredit) (paidBytes noCredit) ≡ 3
-unfolding imageOf noCredit credited differing sameBytes _and_
-three-cells = refl
+front-cells : (z : List ℕ) → differing 259 (paperBytes z) (paidBytes z) ≡ 3
+unfolding imageOf differing sameBytes _and_
+front-cells z = refl
 
-pub paper-good : goodImage (paperBytes noCredit) ≡ true
-unfolding imageOf noCredit credited goodImage bytes goodHead goodCap goodKeys goodToken goodSnapshot goodAbsent goodPresent goodAddresses goodDefaults goodPending goodMigration goodOptions tracked freshKey aboveWhere zeros notNegatives zeroHere notNegativeHere each all _and_ _or_ bias amountAt putAmount put le
-paper-good = refl
+same-rest : (z : List ℕ) → drop 4144 (paperBytes z) ≡ drop 4144 (paidBytes z)
+unfolding imageOf
+same-rest z = refl
+
+pub three-cells : (z : List ℕ) → differing 2302 (paperBytes z) (paidBytes z) ≡ 3
+three-cells z = differing-front 259 2043 (paperBytes z) (paidBytes z) (same-rest z) ∙ front-cells z

@@ -35,18 +35,18 @@ depositedBytes z = imageOf 1 1 7 110 2 110 198 0 z
 abbrev pub migratedBytes : List ℕ → List ℕ
 migratedBytes z = imageOf 1 1 7 110 2 0 198 110 z
 
--- what follows, with the owner's credit in it
-unfoldable pub credited : List ℕ → List ℕ
-credited c = replicate 16336 0 ++ (c ++ replicate 16336 0)
+-- what follows, with the owner's credit in it, and what follows that
+unfoldable pub credited : (credit rest : List ℕ) → List ℕ
+credited c w = replicate 16336 0 ++ (c ++ w)
 
 unfoldable pub noCredit : List ℕ
-noCredit = credited (replicate 16 0)
+noCredit = credited (replicate 16 0) (replicate 16336 0)
 
 unfoldable pub creditOfTen : List ℕ
-creditOfTen = credited (10 ∷ replicate 15 0)
+creditOfTen = credited (10 ∷ replicate 15 0) (replicate 16336 0)
 
 unfoldable pub creditFull : List ℕ
-creditFull = credited (replicate 15 255 ++ (127 ∷ []))
+creditFull = credited (replicate 15 255 ++ (127 ∷ [])) (replicate 16336 0)
 
 pub paper-flat : paperImage ≡ paperBytes noCredit
 unfolding paperImage imageOf noCredit credited bias putAmount put

@@ -2,13 +2,14 @@
 use mathlib.Core.Path.{_≡_, refl, sym, ap, _∙_}
 use mathlib.Core.Bool.{Bool, true, false}
 use mathlib.Core.List.{List, [], _∷_}
-use Prim.Native.Nat.{ℕ, zero, suc, _+_}
-use native.Mathlib.Nat.{zero-add}
+use Prim.Native.Nat.{ℕ, zero, suc, _+_, _*_}
+use native.Mathlib.Nat.{zero-add, suc-add}
 use native.Mathlib.Numerals.{one-add}
 use native.Mathlib.Omega.{arith}
 use lib.ListN.{length, take, drop, replicate}
+use lib.Seq.{drop-drop}
 use Rattle.fields.specs.Rules.{pick}
-use Rattle.fields.specs.Same.{sameBytes}
+use Rattle.fields.specs.Same.{sameBytes, same-refl}
 use Rattle.journal.specs.Calls.{Call, operation, State}
 use Rattle.journal.specs.Journal.{Contents, contentsOf, fits, changed}
 use Rattle.journal.specs.Step.{vault, blank, operated}
@@ -65,6 +66,20 @@ module _ (l r : List ℕ) where
 unfoldable pub differing : ℕ → (old new : List ℕ) → ℕ
 differing zero old new = 0
 differing (suc n) old new = pick (sameBytes (take 16 old) (take 16 new)) 0 1 + differing n (drop 16 old) (drop 16 new)
+
+pub differing-same : (n : ℕ) (l : List ℕ) → differing n l l ≡ 0
+unfolding differing
+differing-same zero l = refl
+differing-same (suc n) l = rw (same-refl (take 16 l), differing-same n (drop 16 l))
+
+-- none differ behind the first m
+pub differing-front : (m n : ℕ) (old new : List ℕ) → drop (16 * m) old ≡ drop (16 * m) new → differing (m + n) old new ≡ differing m old new
+unfolding differing
+differing-front zero n old new e = rw (zero-add, e) (differing-same n new)
+differing-front (suc m) n old new e =
+    let q : 16 + 16 * m ≡ 16 * suc m = omega arith in
+    let f : (l : List ℕ) → drop (16 * m) (drop 16 l) ≡ drop (16 * suc m) l = λ l. drop-drop (16 * m) 16 l ∙ ap (λ (k : ℕ). drop k l) q in
+    rw suc-add (ap (λ (k : ℕ). pick (sameBytes (take 16 old) (take 16 new)) 0 1 + k) (differing-front m n (drop 16 old) (drop 16 new) (f old ∙ (e ∙ sym (f new)))))
 
 pub length-changed : (call n i : ℕ) (old new : List ℕ) → length (changed call n i old new) ≡ differing n old new
 unfolding changed differing

@@ -12,7 +12,7 @@ use Rattle.fields.specs.Bytes.{le}
 use Rattle.amount.specs.Biased.{bias}
 use Rattle.image.specs.Layout.{cells, kind, credit}
 use Rattle.image.specs.Good.{goodImage}
-use Rattle.storage.specs.Facts.{Good, facts, test}
+use Rattle.storage.specs.Facts.{Good, test}
 use Rattle.storage.specs.Writes.{good-credit}
 use Rattle.journal.specs.Calls.{begin, undo, State, Step}
 use Rattle.journal.specs.Journal.{Contents, bytesOf, contentsOf, fits, changed, entered, room, journalAfter}
@@ -25,13 +25,11 @@ use Rattle.token_vault.proofs.Called.{own-number, own-image, vault-begin, vault
 use Rattle.vault_cases.specs.Paper.{paperImage, fullCreditImage, paper, ask, deposits, depositsIn, depositsWithFee, depositsToken, paysTo, paysTwo, limitsOperator, setsLimit, pauses, proposes, acceptsAt, initiates, executesAt, asksCompliance}
 use Rattle.vault_cases.specs.Cases.{Cases, answers, after, done, refused}
 use Rattle.vault_cases.proofs.Flat.{imageOf, paperBytes, depositedBytes, migratedBytes, paidBytes, noCredit, creditOfTen, creditFull, paper-flat, full-flat}
+use Rattle.vault_cases.proofs.Made.{good}
 use Rattle.vault_cases.proofs.Runs.{Accepts, Refuses, Views, passed, shown-done, length-changed, accepted, accepts, refuses, viewed, still-good}
-use Rattle.vault_cases.proofs.Computed.{pays-40-60, pays-41-60, limited, pays-30-20, pays-30-21, pays-itself, deposits-900, deposits-901, fee-9, fee-10, paused, fee-10-paused, proposed, accepted-604799, accepted-604800, initiated, executed-172799, initiated-paused, executed, executed-paused, deposits-10, then-initiated, then-executed, deposits-again, deposits-next, compliant-2, deposits-1, deposits-token-1, limit-99, limit-100, pays-5, compliant-0, compliant-48, paid, deposited, migrated, credit-kept, three-cells, paper-good}
+use Rattle.vault_cases.proofs.Computed.{pays-40-60, pays-41-60, limited, pays-30-20, pays-30-21, pays-itself, deposits-900, deposits-901, fee-9, fee-10, paused, fee-10-paused, proposed, accepted-604799, accepted-604800, initiated, executed-172799, initiated-paused, executed, executed-paused, deposits-10, then-initiated, then-executed, deposits-again, deposits-next, compliant-2, deposits-1, deposits-token-1, limit-99, limit-100, pays-5, compliant-0, compliant-48, paid, deposited, migrated, credit-kept, three-cells}
 
 -- ---- the images are good
-good : Good (paperBytes noCredit)
-good = facts (paperBytes noCredit) paper-good
-
 paper-is-good : Good paperImage
 paper-is-good = rw paper-flat good
 
@@ -78,12 +76,12 @@ module _ (n : ℕ) (f : fits n ≡ true) (h : 96 ≤ n) where
   has-room : room cells l m opened ≡ true
   unfolding room entered
   has-room =
-      let e : length (changed 1 cells 0 l m) ≡ 3 = rw (paid noCredit) (length-changed 1 cells 0 l (paidBytes noCredit) ∙ three-cells) in
+      let e : length (changed 1 cells 0 l m) ≡ 3 = rw (paid noCredit) (length-changed 1 cells 0 l (paidBytes noCredit) ∙ three-cells noCredit) in
       rw (opened-is, opened-long) (and-i _ _ refl (rw e (le-leb (24 * suc 3) n h)))
 
   first : vaultStep (vault l (replicate n 0)) begin ≡ reply 0 [] (vault l opened)
   first =
-      vault-begin l (replicate n 0) paper-good (zeros-good n f cells)
+      vault-begin l (replicate n 0) (test l good) (zeros-good n f cells)
       ∙ begun-closed (vault l (replicate n 0)) (ap (λ (c : Contents). c .opened) (zeros-contents n f))
       ∙ ap (λ k. reply 0 [] (vault l (bytesOf k fresh))) (zeros-long n)
 
@@ -94,7 +92,7 @@ module _ (n : ℕ) (f : fits n ≡ true) (h : 96 ≤ n) where
       let i = own-image l (paysTo 4 5) blank q (p .number) in
       let z = own-number l (paysTo 4 5) blank q ∙ p .number in
       rw (
-        step-operation cells goodImage op view (vault l opened) paper-good (fresh-good n f cells) (paysTo 4 5) blank,
+        step-operation cells goodImage op view (vault l opened) (test l good) (fresh-good n f cells) (paysTo 4 5) blank,
         p .changes,
         operated-entered cells (vault l opened) (op l (paysTo 4 5) blank) z (ap (λ (c : Contents). c .opened) opened-is) (rw i has-room),
         i,
