@@ -1,7 +1,7 @@
 // Checks that several operations make: each gives the paper's number of the first rule that holds, or 0.
 use amount::Amount;
 ghost use mathlib.Core.Path.{_≡_};
-ghost use Prim.Native.Nat.{ℕ, _+_, _<_, _≤_};
+ghost use Prim.Native.Nat.{_+_, _<_, _≤_};
 ghost use lib.ListN.{length};
 ghost use Rattle.amount.specs.Biased.{bias, biased};
 ghost use Rattle.image.specs.Layout.{imageLength};

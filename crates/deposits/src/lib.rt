@@ -3,7 +3,7 @@ use amount::Amount;
 use outcome::Answer;
 ghost use mathlib.Core.Path.{_≡_};
 ghost use mathlib.Core.List.{[]};
-ghost use Prim.Native.Nat.{_+_, _-_, _<_, _≤_};
+ghost use Prim.Native.Nat.{_+_, _<_, _≤_};
 ghost use lib.ListN.{length};
 ghost use Rattle.amount.specs.Biased.{bias, biased};
 ghost use Rattle.image.specs.Layout.{imageLength, slot, holding};
@@ -76,7 +76,7 @@ fn add_credit(img: &mut [u8], t: u8, account: u8, n: Amount)
 {
     let i = t as usize;
     let a = account as usize;
-    let old = amount::read_amount(img, 20448 + 1024 * (i - 48) + 16 * a);
+    let old = storage::get_token_account_balance(img, i, a);
     if amount::passes(old, n) != 0 {
         return;
     }
@@ -230,7 +230,7 @@ fn credited_check(img: &[u8], t: u8, from: u8, expected: Amount, n: Amount) -> u
     if k != 0 {
         return k;
     }
-    let credit = amount::read_amount(img, 20448 + 1024 * (i - 48) + 16 * (from as usize));
+    let credit = storage::get_token_account_balance(img, i, from as usize);
     overflow_check(credit, n)
 }
 

@@ -1,6 +1,6 @@
 -- An event and its 56 bytes: kind, addresses at 1 and 2, yes or no at 3, numbers at 8, 24 and 40, the rest zero.
 use mathlib.Core.List.{List, [], _∷_, _++_}
-use Prim.Native.Nat.{ℕ, _+_, _*_, _-_}
+use Prim.Native.Nat.{ℕ, _*_, _-_}
 use lib.ListN.{length, getD, replicate}
 use lib.IntN.{pos}
 use Rattle.fields.specs.Rules.{Rule, when, verdict, ne}

@@ -11,7 +11,7 @@ use Rattle.journal.specs.Calls.{Call, operation, begin, commit, rollback, undo,
 use Rattle.journal.specs.Journal.{Contents, bytesOf, contentsOf, goodJournal, room, journalAfter}
 use Rattle.journal.specs.Step.{vault, reply, begun, committed, rolledBack, undone, lastUndone, outcome, operated, step}
 use Rattle.journal.proofs.Written.{sound}
-use Rattle.journal.proofs.States.{closed, fresh, fresh-good, fresh-contents, zeros-good, zeros-contents, begun-open, begun-closed, committed-open, committed-closed, rolled-closed, undone-open, undone-closed, begun-rolled, entered-good, entered-undone, entered-rolled}
+use Rattle.journal.proofs.States.{fresh, fresh-good, fresh-contents, zeros-good, zeros-contents, begun-open, begun-closed, committed-open, committed-closed, rolled-closed, undone-open, undone-closed, begun-rolled, entered-good, entered-undone, entered-rolled}
 use Rattle.journal.proofs.Dispatch.{step-operation, step-begin, step-commit, step-rollback, step-undo}
 use Rattle.journal.proofs.Refusals.{view-keeps, step-refused}
 use Rattle.history.specs.Owed.{OpLaws}

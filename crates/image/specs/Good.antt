@@ -1,19 +1,16 @@
 -- When an image is good.
-use mathlib.Core.List.{List, [], _∷_}
-use mathlib.Core.Bool.{Bool, true, false, not}
-use Prim.Native.Nat.{ℕ, zero, suc, _+_, _-_, _*_}
+use mathlib.Core.List.{List}
+use mathlib.Core.Bool.{Bool, false, not}
+use Prim.Native.Nat.{ℕ, zero, suc, _-_, _*_}
 use lib.Dec.{eqb, ltb, leb}
-use lib.ListN.{length, getD, drop}
+use lib.ListN.{length, drop}
 use Rattle.fields.specs.Logic.{_and_, _or_, all}
 use Rattle.fields.specs.Bytes.{bytes}
 use Rattle.fields.specs.Rules.{pick}
 use Rattle.fields.specs.Zeros.{each, zeros}
 use Rattle.amount.specs.Biased.{amountAt, bias}
 use Rattle.image.specs.Layout.{
-  capAt,
-  snapshotAt,
   trackedKeyAt,
-  tokenAt,
   holdingsAt,
   creditsAt,
   flags,
@@ -27,7 +24,6 @@ use Rattle.image.specs.Layout.{
   timeToLive,
   migrationProposedAt,
   executableAt,
-  cappedSet,
   trackedCount,
   vaultLimit,
   operatorLimit,

@@ -1,20 +1,19 @@
 -- Laws of the tests of an image.
 use mathlib.Core.Path.{_≡_, refl, sym, ap, _∙_}
 use mathlib.Core.Bool.{Bool, true, false, not}
-use mathlib.Core.List.{List, [], _∷_}
-use Prim.Native.Nat.{ℕ, zero, suc, _+_, _-_, _*_, _/_, _%_, _^_, _≤_, _<_}
+use mathlib.Core.List.{List}
+use Prim.Native.Nat.{ℕ, zero, suc, _+_, _*_, _%_, _^_, _≤_, _<_}
 use native.Mathlib.Nat.{add-zero, add-mul, le-antisymm}
 use native.Mathlib.Numerals.{add-one}
 use native.Mathlib.Omega.{arith}
 use borrow.Author.Tests.{eqb-true, eqb-false, eq-eqb, ne-eqb, lt-ltb, le-ltb, le-leb, lt-leb, ltb-true, leb-true}
 use lib.Arith.{digits-lt}
-use lib.Bits.{bitAnd, bitOr, or-add-and, and-le-l, and-le-r}
-use lib.Dec.{eqb, ltb, leb, lit<}
+use lib.Dec.{eqb, ltb, leb}
 use lib.ListN.{length, getD, set, replicate, getD-replicate, drop}
 use lib.Seq.{getD-set-same, getD-set-other, drop-drop}
 use Rattle.fields.specs.Bytes.{le, le-below, le-drop, le-split}
 use Rattle.amount.specs.Biased.{amountAt, bias, signOf}
-use Rattle.amount.specs.Laws.{by-lt, bias-parts, full-parts, lex-lt, sign-below, sign-zero, sign-above}
+use Rattle.amount.specs.Laws.{by-lt, bias-parts, sign-below, sign-zero, sign-above}
 use Rattle.image.specs.Layout.{trackedKey, defaultToken}
 use Rattle.fields.specs.Logic.{_and_, _or_, and-l, and-r, and-i, and-false, false-and}
 use Rattle.fields.specs.Zeros.{each}

@@ -1,8 +1,6 @@
 -- The image of 36,832 bytes, 2,302 cells of 16: where each field stands, and what is read there. Tokens are counted by their slot, address 48 first.
 use mathlib.Core.List.{List}
-use mathlib.Core.Bool.{Bool}
 use Prim.Native.Nat.{ℕ, _+_, _-_, _*_, _/_, _%_, _^_}
-use lib.Dec.{eqb}
 use Rattle.fields.specs.Bytes.{le}
 use Rattle.amount.specs.Biased.{amountAt}
 

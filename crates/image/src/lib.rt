@@ -2,10 +2,9 @@
 use fields::both;
 use fields::either;
 ghost use mathlib.Core.Path.{_≡_};
-ghost use mathlib.Core.Bool.{not};
-ghost use Prim.Native.Nat.{_+_, _-_, _*_, _/_, _%_, _^_, _≤_, _<_};
+ghost use Prim.Native.Nat.{_+_, _*_, _≤_, _<_};
 ghost use lib.Dec.{ltb, leb, eqb};
-ghost use lib.ListN.{length, getD};
+ghost use lib.ListN.{length};
 ghost use Rattle.fields.specs.Bytes.{le};
 ghost use Rattle.amount.specs.Biased.{amountAt, bias, signOf};
 ghost use Rattle.image.specs.Layout.{imageLength, bit};

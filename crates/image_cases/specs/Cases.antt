@@ -1,8 +1,8 @@
 -- `goodImage` on closed images: an empty and an initialised one are good, damaged ones are not.
-use mathlib.Core.Path.{_≡_, refl, _∙_}
+use mathlib.Core.Path.{_≡_, refl}
 use mathlib.Core.List.{List, _∷_, _++_}
 use mathlib.Core.Bool.{Bool, true, false}
-use Prim.Native.Nat.{ℕ, _+_, _-_, _*_, _^_, _<_}
+use Prim.Native.Nat.{ℕ, _+_, _^_, _<_}
 use native.Mathlib.Omega.{arith}
 use lib.Dec.{lit<}
 use lib.ListN.{length, replicate, length-replicate}
@@ -12,9 +12,9 @@ use Rattle.fields.specs.Frame.{zero-le}
 use Rattle.fields.specs.Zeros.{each, zeroHere, zeros}
 use Rattle.amount.specs.Biased.{bias, amountAt, putAmount}
 use Rattle.amount.specs.Frame.{zero-amountAt}
-use Rattle.amount.specs.Laws.{length-putAmount, amountAt-putAmount}
-use Rattle.image.specs.Layout.{tokenAt, flags, trackedCount, trackedKey, initialised, kind}
-use Rattle.storage.specs.Facts.{Good, facts, test}
+use Rattle.amount.specs.Laws.{amountAt-putAmount}
+use Rattle.image.specs.Layout.{tokenAt, flags, trackedCount, trackedKey, kind}
+use Rattle.storage.specs.Facts.{facts, test}
 use Rattle.storage.specs.Writes.{elsewhere}
 use Rattle.storage.specs.Zeros.{zero-at, empty-good}
 use Rattle.image.specs.Good.{

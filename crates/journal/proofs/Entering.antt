@@ -10,7 +10,7 @@ use native.Mathlib.Omega.{arith}
 use lib.ListN.{length, take, drop, length-append, length-take, length-replicate, take-append-drop}
 use lib.Seq.{take-all, take-append-le, take-append-add, drop-drop}
 use borrow.Author.Tests.{lt-leb, le-leb}
-use Rattle.fields.specs.Logic.{_and_, and-i, and-false, false-and}
+use Rattle.fields.specs.Logic.{and-i, and-false, false-and}
 use Rattle.fields.specs.Bytes.{put}
 use Rattle.fields.specs.Rules.{pick}
 use Rattle.fields.specs.Same.{sameBytes}

@@ -1,7 +1,7 @@
 -- The undo journal: its bytes and what they say, which journals are good, and what an accepted operation enters.
 use mathlib.Core.Bool.{Bool, true}
 use mathlib.Core.List.{List, [], _∷_, _++_}
-use Prim.Native.Nat.{ℕ, zero, suc, _+_, _*_, _-_, _/_, _%_}
+use Prim.Native.Nat.{ℕ, zero, suc, _*_, _-_, _/_, _%_}
 use lib.Dec.{eqb, leb, ltb}
 use lib.ListN.{length, getD, take, drop, replicate}
 use Rattle.fields.specs.Logic.{_and_, _or_}

@@ -1,13 +1,13 @@
 -- What an operation gives by its own rules, and what its function owes.
-use mathlib.Core.Path.{_≡_, refl, sym, ap, _∙_}
+use mathlib.Core.Path.{_≡_, sym, ap, _∙_}
 use mathlib.Core.List.{List, [], _∷_}
 use Prim.Native.Nat.{ℕ, _+_, _<_}
 use native.Mathlib.Nat.{add-zero}
 use native.Mathlib.Omega.{arith}
 use lib.ListN.{length, getD}
 use Rattle.amount.specs.Biased.{bias, biased}
-use Rattle.events.specs.Event.{EventFields, eventBuffer, putEvent}
-use Rattle.events.specs.Buffer.{length-eventBuffer, appended}
+use Rattle.events.specs.Event.{EventFields, eventBuffer}
+use Rattle.events.specs.Buffer.{length-eventBuffer}
 use Rattle.record.specs.Record.{operationOf}
 use Rattle.record.specs.Form.{formNumber}
 use Rattle.record.specs.Laws.{form-length, form-bytes}

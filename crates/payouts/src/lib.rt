@@ -190,9 +190,7 @@ fn credit_check(img: &[u8], t: u8, caller: u8, n: Amount) -> u8
     if fields::get8(img, 2) == caller {
         return 0;
     }
-    let i = t as usize;
-    let a = caller as usize;
-    let credit = amount::read_amount(img, 20448 + 1024 * (i - 48) + 16 * a);
+    let credit = storage::get_token_account_balance(img, t as usize, caller as usize);
     if amount::below(credit, n) != 0 {
         return 6;
     }
@@ -206,7 +204,7 @@ fn take_credit(img: &mut [u8], t: u8, account: u8, n: Amount)
 {
     let i = t as usize;
     let a = account as usize;
-    let credit = amount::read_amount(img, 20448 + 1024 * (i - 48) + 16 * a);
+    let credit = storage::get_token_account_balance(img, i, a);
     if amount::below(credit, n) != 0 {
         return;
     }

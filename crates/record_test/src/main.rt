@@ -1,7 +1,7 @@
 // Refusal 32: lengths, operations, the bounds of each field, and the fields that each operation reads; then the fields of one record.
 use amount::Amount;
 ghost use mathlib.Core.Path.{_≡_};
-ghost use Prim.Native.Nat.{_+_, _<_, _≤_};
+ghost use Prim.Native.Nat.{_<_};
 ghost use lib.ListN.{length};
 
 fn number(n: u64) {

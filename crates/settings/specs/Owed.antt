@@ -1,7 +1,7 @@
 -- What operations 10 to 14, 18 and 19 owe to demand 3: none of them moves money.
 use mathlib.Core.Path.{_≡_, refl, sym, ap, _∙_}
 use mathlib.Core.List.{List}
-use Prim.Native.Nat.{ℕ, _+_, _<_}
+use Prim.Native.Nat.{ℕ, _<_}
 use native.Mathlib.Omega.{arith}
 use Rattle.book.specs.Book.{Book, BookIs}
 use Rattle.book.specs.Owed.{Owed}

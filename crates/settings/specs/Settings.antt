@@ -2,14 +2,13 @@
 -- l is the image; amounts stand as numbers (value plus bias).
 use mathlib.Core.List.{List, [], _∷_}
 use Prim.Native.Nat.{ℕ}
-use lib.Dec.{eqb, ltb}
+use lib.Dec.{ltb}
 use Rattle.outcome.specs.Outcome.{Outcome, announces}
 use Rattle.checks.specs.Checks.{flag, pausedBit, operatorBit, operatorLimitBit, pausedNumber, signedNumber, initialisedNumber, notOwnerNumber, ownerNumber, notInsiderNumber, sharedNumber, amountNumber}
-use Rattle.events.specs.Kinds.{limitSetEvent, operatorWithdrawLimitSetEvent, operatorSetEvent, operatorRevokedEvent, pausedEvent, unpausedEvent, tokenApprovalChangedEvent}
-use Rattle.record.specs.Record.{callerOf, tokenOf, otherOf, flagOf, timestampOf, signersOf, amountOf}
-use Rattle.token.specs.Token.{absentNumber}
+use Rattle.events.specs.Kinds.{limitSetEvent, operatorWithdrawLimitSetEvent, operatorSetEvent, operatorRevokedEvent, pausedEvent, unpausedEvent}
+use Rattle.record.specs.Record.{callerOf, tokenOf, otherOf, timestampOf, signersOf, amountOf}
 use Rattle.storage.specs.Setters.{setCap}
-use Rattle.image.specs.Layout.{slot, flags, defaultToken, approvedSet, vaultLimit, operatorLimit, holding, withBit, withoutBit}
+use Rattle.image.specs.Layout.{slot, flags, defaultToken, vaultLimit, operatorLimit, holding, withBit, withoutBit}
 use Rattle.amount.specs.Value.{value}
 use Rattle.amount.specs.Biased.{putAmount}
 use Rattle.fields.specs.Rules.{pick, lt, eq, ne, Rule, when, verdict, chain}

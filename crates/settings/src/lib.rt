@@ -3,7 +3,7 @@ use amount::Amount;
 use outcome::Answer;
 ghost use mathlib.Core.Path.{_≡_};
 ghost use mathlib.Core.List.{[]};
-ghost use Prim.Native.Nat.{ℕ, _<_, _≤_};
+ghost use Prim.Native.Nat.{_<_};
 ghost use lib.ListN.{length};
 ghost use Rattle.amount.specs.Biased.{biased};
 ghost use Rattle.image.specs.Layout.{imageLength, initialised};

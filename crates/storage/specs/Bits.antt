@@ -1,7 +1,7 @@
 -- Bits of a set, at any place.
-use mathlib.Core.Path.{_≡_, refl, sym, ap, _∙_}
+use mathlib.Core.Path.{_≡_, sym, ap, _∙_}
 use Prim.Native.Nat.{ℕ, suc, _+_, _-_, _*_, _/_, _%_, _^_, _≤_, _<_}
-use native.Mathlib.Nat.{add-div-right, add-mul-div-right, pow-suc, mul-zero, mul-one, one-mul, add-mul, mod-lt, add-zero, sub-zero, add-comm, div-eq-of-lt}
+use native.Mathlib.Nat.{add-div-right, add-mul-div-right, pow-suc, mul-zero, mul-one, one-mul, add-mul, mod-lt, add-zero, sub-zero, div-eq-of-lt}
 use native.Mathlib.Omega.{arith}
 use mathlib.Core.List.{List}
 use lib.ListN.{length}

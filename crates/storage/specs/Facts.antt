@@ -4,8 +4,8 @@ use mathlib.Core.Bool.{Bool, true, false, not}
 use mathlib.Core.List.{List}
 use Prim.Native.Nat.{ℕ, zero, suc, _+_, _-_, _*_, _/_, _%_, _^_, _≤_, _<_}
 use native.Mathlib.Omega.{arith}
-use native.Mathlib.Nat.{add-zero, add-suc, le-antisymm}
-use borrow.Author.Tests.{eqb-true, eqb-false, eq-eqb, ne-eqb, lt-ltb, le-ltb, le-leb, lt-leb, ltb-true, leb-true, not-true}
+use native.Mathlib.Nat.{add-zero, add-suc}
+use borrow.Author.Tests.{eqb-true, eqb-false, eq-eqb, ne-eqb, lt-ltb, le-leb, ltb-true, leb-true, not-true}
 use lib.Dec.{eqb, ltb, leb}
 use lib.ListN.{length, getD}
 use lib.ListN.{set}

@@ -1,9 +1,8 @@
 -- Writes in the head: each law is `good-head` at the values that stand there after.
-use mathlib.Core.Path.{_≡_, refl, sym, ap, _∙_}
+use mathlib.Core.Path.{_≡_, refl, sym, _∙_}
 use mathlib.Core.List.{List}
-use Prim.Native.Nat.{ℕ, suc, _+_, _-_, _*_, _/_, _%_, _^_, _≤_, _<_}
+use Prim.Native.Nat.{ℕ, _+_, _-_, _^_, _≤_, _<_}
 use native.Mathlib.Omega.{arith}
-use lib.ListN.{length, getD}
 use Rattle.image.specs.Layout.{flags, owner, defaultToken, operator, pendingOwner, proposer, destination, timeToLive, vaultLimit, operatorLimit, kind, initialised, withBit, withoutBit}
 use Rattle.amount.specs.Frame.{only-putAmount, zero-amountAt}
 use Rattle.amount.specs.Laws.{length-putAmount, amountAt-putAmount}

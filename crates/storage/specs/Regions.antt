@@ -1,9 +1,8 @@
 -- One law for each region of the image: a write there that keeps the region's own facts keeps the image good.
-use mathlib.Core.Path.{_≡_, refl, sym, ap, _∙_}
+use mathlib.Core.Path.{_≡_, sym, _∙_}
 use mathlib.Core.List.{List}
-use Prim.Native.Nat.{ℕ, _+_, _-_, _*_, _/_, _%_, _^_, _≤_, _<_}
+use Prim.Native.Nat.{ℕ, _+_, _-_, _*_, _≤_, _<_}
 use native.Mathlib.Omega.{arith}
-use lib.ListN.{length, getD}
 use Rattle.image.specs.Layout.{capAt, snapshotAt, trackedKeyAt, tokenAt, tollAt, holdingsAt, creditsAt, flags, defaultToken, trackedCount, cap, kind, trackedKey, holding, credit, initialised, isCapped}
 use Rattle.amount.specs.Frame.{same-amountAt}
 use Rattle.amount.specs.Biased.{bias, amountAt}

@@ -1,6 +1,6 @@
 -- The head's fields with some values changed.
 use mathlib.Core.Path.{_≡_, sym, _∙_}
-use Prim.Native.Nat.{ℕ, _+_, _*_, _/_, _%_, _^_, _<_}
+use Prim.Native.Nat.{ℕ, _<_}
 use Rattle.image.specs.Layout.{bit, owner, defaultToken, operator, pendingOwner, proposer, destination, timeToLive, vaultLimit, operatorLimit}
 use Rattle.amount.specs.Biased.{bias}
 use Rattle.storage.specs.Facts.{Fields}

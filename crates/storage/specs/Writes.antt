@@ -1,11 +1,11 @@
 -- One law for each kind of write: a good image stays good.
-use mathlib.Core.Path.{_≡_, refl, sym, ap, _∙_}
+use mathlib.Core.Path.{_≡_, sym, ap, _∙_}
 use mathlib.Core.List.{List}
-use Prim.Native.Nat.{ℕ, suc, _+_, _-_, _*_, _/_, _%_, _^_, _≤_, _<_}
+use Prim.Native.Nat.{ℕ, _+_, _*_, _%_, _^_, _≤_, _<_}
 use native.Mathlib.Omega.{arith}
 use native.Mathlib.Nat.{mod-lt, le-antisymm}
 use lib.Dec.{lit<}
-use lib.ListN.{length, getD}
+use lib.ListN.{length}
 use lib.ListN.{set}
 use Rattle.image.specs.Layout.{capAt, snapshotAt, trackedKeyAt, tokenAt, tollAt, holdingsAt, holdingAt, creditsAt, creditAt, bit, cappedSet, trackedCount, cap, kind, trackedKey, snapshotPresent, initialised, isCapped, withBit, holding, credit, defaultToken}
 use Rattle.amount.specs.Frame.{only-putAmount, same-amountAt}

@@ -1,11 +1,11 @@
 -- An image of zeros is good.
 use mathlib.Core.Path.{_≡_, refl, _∙_}
 use mathlib.Core.List.{List}
-use Prim.Native.Nat.{ℕ, zero, suc, _+_, _/_, _%_, _^_, _≤_, _<_}
+use Prim.Native.Nat.{ℕ, zero, suc, _+_, _/_, _%_, _^_}
 use native.Mathlib.Nat.{zero-div}
 use native.Mathlib.Omega.{arith}
 use lib.ListN.{length, getD, replicate, length-replicate}
-use Rattle.image.specs.Layout.{capAt, snapshotAt, tokenAt, tollAt, holdingAt, creditAt, flags, cappedSet}
+use Rattle.image.specs.Layout.{capAt, snapshotAt, tokenAt, tollAt, holdingAt, creditAt, cappedSet}
 use Rattle.amount.specs.Frame.{zero-amountAt}
 use Rattle.amount.specs.Biased.{bias, amountAt}
 use Rattle.fields.specs.Frame.{zero-le}

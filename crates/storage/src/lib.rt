@@ -1,11 +1,11 @@
 // What storage.rs keeps in the image besides plain fields: tracked keys, credits, caps and snapshots. A token is named by its address.
 use amount::Amount;
 ghost use mathlib.Core.Path.{_≡_};
-ghost use Prim.Native.Nat.{ℕ, _+_, _-_, _*_, _<_, _≤_, _^_};
+ghost use Prim.Native.Nat.{_<_, _≤_};
 ghost use lib.ListN.{length};
 ghost use Rattle.fields.specs.Bytes.{put};
 ghost use Rattle.amount.specs.Biased.{biased};
-ghost use Rattle.image.specs.Layout.{imageLength, flags, trackedCount, withBit, withoutBit};
+ghost use Rattle.image.specs.Layout.{imageLength, slot, flags, trackedCount, credit, withBit, withoutBit};
 ghost use Rattle.image.specs.Good.{tracked};
 ghost use Rattle.storage.specs.Facts.{Good, Keys};
 ghost use Rattle.storage.specs.Setters.{trackKey, setCredit, setCap, recordBalance, snapshotNumber};
@@ -36,6 +36,13 @@ fn track_vault_key(img: &mut [u8], k: u16)
     let n = fields::get64(img, 88);
     fields::put16(img, 1504 + 2 * (n as usize), k);
     fields::put64(img, 88, n + 1);
+}
+
+pub fn get_token_account_balance(img: &[u8], t: usize, account: usize) -> Amount
+    requires { ⌜ (length (now img) ≡ imageLength) × (48 ≤ t) × (t < 64) × (account < 64) ⌝ }
+    ensures { λ r. ⌜ biased r ≡ credit (now (img .entry)) (slot t) account ⌝ }
+{
+    amount::read_amount(img, 20448 + 1024 * (t - 48) + 16 * account)
 }
 
 pub fn set_token_account_balance(img: &mut [u8], t: usize, account: usize, balance: Amount)

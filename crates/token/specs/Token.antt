@@ -3,7 +3,7 @@
 use mathlib.Core.List.{List, [], _∷_}
 use Prim.Native.Nat.{ℕ, _+_, _-_}
 use lib.Dec.{eqb}
-use Rattle.fields.specs.Rules.{Guard, lt, leq, eq, ne, Rule, when, verdict, pick}
+use Rattle.fields.specs.Rules.{lt, leq, eq, ne, Rule, when, verdict, pick}
 use Rattle.amount.specs.Biased.{bias, putAmount}
 use Rattle.image.specs.Layout.{slot, defaultToken, kind, toll, holding, holdingAt}
 

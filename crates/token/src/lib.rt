@@ -1,7 +1,7 @@
 // The token table: SEP-41 `balance` and `transfer` with document 01's rules. A token is named by its address.
 use amount::Amount;
 ghost use mathlib.Core.Path.{_≡_};
-ghost use Prim.Native.Nat.{ℕ, _+_, _-_, _<_, _≤_};
+ghost use Prim.Native.Nat.{_+_, _<_, _≤_};
 ghost use lib.ListN.{length};
 ghost use Rattle.amount.specs.Biased.{bias, biased, putAmount};
 ghost use Rattle.image.specs.Layout.{imageLength, initialised, slot, holding, holdingAt};

@@ -1,5 +1,4 @@
 // The six calls of the token vault for C and Rust: a slice is passed as a pointer and a length, the value and the event count each as a pointer.
-ghost use mathlib.Core.Path.{_≡_};
 ghost use Rattle.journal.specs.Calls.{Call};
 ghost use Rattle.journal.specs.Step.{vault};
 ghost use Rattle.token_vault.specs.Vault.{vaultStep};

@@ -1,11 +1,11 @@
 -- The paper's image is good: the laws of the writes that make it from an image of zeros.
 use mathlib.Core.Path.{_≡_, refl, ap}
 use mathlib.Core.List.{List}
-use Prim.Native.Nat.{ℕ, _+_, _-_, _^_, _≤_, _<_}
+use Prim.Native.Nat.{ℕ, _+_, _^_, _<_}
 use native.Mathlib.Omega.{arith}
 use lib.Dec.{lit<}
-use lib.ListN.{length, replicate}
-use Rattle.fields.specs.Bytes.{le, put, le-put-same}
+use lib.ListN.{replicate}
+use Rattle.fields.specs.Bytes.{put, le-put-same}
 use Rattle.fields.specs.Frame.{zero-le}
 use Rattle.amount.specs.Biased.{bias, putAmount}
 use Rattle.image.specs.Layout.{bit, tokenAt, holdingAt, flags, kind, initialised}

@@ -10,7 +10,7 @@ use lib.ListN.{length, take, drop, replicate}
 use lib.Seq.{drop-drop}
 use Rattle.fields.specs.Rules.{pick}
 use Rattle.fields.specs.Same.{sameBytes, same-refl}
-use Rattle.journal.specs.Calls.{Call, operation, State}
+use Rattle.journal.specs.Calls.{Call, State}
 use Rattle.journal.specs.Journal.{Contents, contentsOf, fits, changed}
 use Rattle.journal.specs.Step.{vault, blank, operated}
 use Rattle.journal.proofs.States.{zeros-good, zeros-contents}

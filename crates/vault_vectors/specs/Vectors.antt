@@ -1,10 +1,8 @@
 -- What is printed for a call of the vectors, and what the vault carries on to the next call.
-use mathlib.Core.Path.{_≡_, refl}
-use mathlib.Core.Bool.{Bool, true, false}
+use mathlib.Core.Path.{_≡_}
 use mathlib.Core.List.{List, [], _∷_, _++_}
-use Prim.Native.Nat.{ℕ, zero, suc, _+_}
+use Prim.Native.Nat.{ℕ, _+_}
 use lib.Dec.{eqb}
-use lib.IntN.{ℤ}
 use Rattle.fields.specs.Rules.{pick}
 use Rattle.amount.specs.Biased.{bias}
 use Rattle.events.specs.Splice.{amountBytes}

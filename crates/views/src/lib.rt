@@ -2,13 +2,13 @@
 use amount::Amount;
 use outcome::Answer;
 ghost use mathlib.Core.Path.{_≡_};
-ghost use Prim.Native.Nat.{ℕ, _+_, _<_, _≤_};
+ghost use Prim.Native.Nat.{_+_, _<_};
 ghost use lib.ListN.{length};
 ghost use Rattle.amount.specs.Biased.{bias, biased};
 ghost use Rattle.image.specs.Layout.{imageLength, initialised};
 ghost use Rattle.storage.specs.Facts.{Good};
 ghost use Rattle.outcome.specs.Outcome.{Views, Formed};
-ghost use Rattle.views.specs.Views.{balanceOutcome, balance, withdrawCapNumber, effectiveNumber, effectiveValue, effectiveOutcome, effectiveWithdrawLimit, accountBalance, accountOutcome, getTokenAccountBalance, approvedOutcome, isTokenApproved, compliantNumber, compliantOutcome, isTokenCompliant};
+ghost use Rattle.views.specs.Views.{balance, withdrawCapNumber, effectiveNumber, effectiveValue, effectiveOutcome, effectiveWithdrawLimit, accountBalance, getTokenAccountBalance, isTokenApproved, compliantOutcome, isTokenCompliant};
 
 pub fn balance(img: &[u8], rec: &[u8]) -> Answer
     requires { ⌜ Good (now img) × Formed 24 (now rec) ⌝ }
@@ -94,10 +94,7 @@ fn account_balance(img: &[u8], t: u8, account: u8) -> Amount
     if t < 48 {
         return amount::zero();
     }
-    amount::read_amount(
-        img,
-        20448 + 1024 * (t as usize - 48) + 16 * (account as usize),
-    )
+    storage::get_token_account_balance(img, t as usize, account as usize)
 }
 
 pub fn get_token_account_balance(img: &[u8], rec: &[u8]) -> Answer

@@ -6,10 +6,6 @@ use mathlib.Core.Path.{refl}
 use borrow.Author.Needs.{needs}
 use Rattle.checks.proofs.approved_check.Statement.{statement}
 use Rattle.checks.proofs.approved_check.Tie as tie
-use Rattle.checks.proofs.approved_check.Reads as reads
-use Rattle.checks.proofs.approved_check.Lts as lts
-use Rattle.checks.proofs.has.Reads as has-reads
-use Rattle.fields.proofs.get64.Reads as get64-reads
 
 get64-requires : tie.Need-get64-requires
 get64-requires c κs = search needs

@@ -6,12 +6,6 @@ use mathlib.Core.Path.{refl}
 use borrow.Author.Needs.{needs}
 use Rattle.checks.proofs.cap_check.Statement.{statement}
 use Rattle.checks.proofs.cap_check.Tie as tie
-use Rattle.checks.proofs.cap_check.Reads as reads
-use Rattle.checks.proofs.cap_check.Lts as lts
-use Rattle.amount.proofs.below.Reads as below-reads
-use Rattle.amount.proofs.read_amount.Reads as read-amount-reads
-use Rattle.checks.proofs.flag_of.Reads as flag-of-reads
-use Rattle.fields.proofs.get8.Reads as get8-reads
 
 get8-requires : tie.Need-get8-requires
 get8-requires c κs = search needs

@@ -6,11 +6,6 @@ use mathlib.Core.Path.{refl}
 use borrow.Author.Needs.{needs}
 use Rattle.checks.proofs.deposit_amount_check.Statement.{statement}
 use Rattle.checks.proofs.deposit_amount_check.Tie as tie
-use Rattle.checks.proofs.deposit_amount_check.Reads as reads
-use Rattle.checks.proofs.deposit_amount_check.Lts as lts
-use Rattle.amount.proofs.below.Reads as below-reads
-use Rattle.amount.proofs.zero.Reads as zero-reads
-use Rattle.checks.proofs.max_vault_deposit.Reads as max-vault-deposit-reads
 
 zero-requires : tie.Need-zero-requires
 zero-requires c κs = search needs

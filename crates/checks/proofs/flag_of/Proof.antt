@@ -1,12 +1,8 @@
 -- `checks::flag_of` meets its contract.
-use mathlib.Core.Path.{refl}
 use Rattle.checks.specs.Checks.{flag}
 use borrow.Author.Needs.{needs}
 use Rattle.checks.proofs.flag_of.Statement.{statement}
 use Rattle.checks.proofs.flag_of.Tie as tie
-use Rattle.checks.proofs.flag_of.Reads as reads
-use Rattle.checks.proofs.flag_of.Lts as lts
-use Rattle.fields.proofs.get16.Reads as get16-reads
 
 get16-requires : tie.Need-get16-requires
 get16-requires c κs = search needs

@@ -6,9 +6,6 @@ use mathlib.Core.Path.{refl}
 use borrow.Author.Needs.{needs}
 use Rattle.checks.proofs.funds_check.Statement.{statement}
 use Rattle.checks.proofs.funds_check.Tie as tie
-use Rattle.checks.proofs.funds_check.Reads as reads
-use Rattle.checks.proofs.funds_check.Lts as lts
-use Rattle.amount.proofs.below.Reads as below-reads
 
 below-requires : tie.Need-below-requires
 below-requires c κs = search needs

@@ -4,8 +4,6 @@ use Rattle.checks.specs.Checks.{inSet}
 use borrow.Author.Needs.{needs}
 use Rattle.checks.proofs.has.Statement.{statement}
 use Rattle.checks.proofs.has.Tie as tie
-use Rattle.checks.proofs.has.Reads as reads
-use Rattle.checks.proofs.has.Lts as lts
 
 shr-result : tie.Need-shr-result
 shr-result c = search needs

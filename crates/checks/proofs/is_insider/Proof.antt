@@ -6,10 +6,6 @@ use mathlib.Core.Path.{refl}
 use borrow.Author.Needs.{needs}
 use Rattle.checks.proofs.is_insider.Statement.{statement}
 use Rattle.checks.proofs.is_insider.Tie as tie
-use Rattle.checks.proofs.is_insider.Reads as reads
-use Rattle.checks.proofs.is_insider.Lts as lts
-use Rattle.checks.proofs.flag_of.Reads as flag-of-reads
-use Rattle.fields.proofs.get8.Reads as get8-reads
 
 get8-requires : tie.Need-get8-requires
 get8-requires c κs = search needs

@@ -6,11 +6,6 @@ use mathlib.Core.Path.{refl}
 use borrow.Author.Needs.{needs}
 use Rattle.checks.proofs.limit_check.Statement.{statement}
 use Rattle.checks.proofs.limit_check.Tie as tie
-use Rattle.checks.proofs.limit_check.Reads as reads
-use Rattle.checks.proofs.limit_check.Lts as lts
-use Rattle.amount.proofs.below.Reads as below-reads
-use Rattle.amount.proofs.passes.Reads as passes-reads
-use Rattle.amount.proofs.plus.Reads as plus-reads
 
 passes-requires : tie.Need-passes-requires
 passes-requires c κs = search needs

@@ -2,11 +2,8 @@
 use mathlib.Core.Path.{refl}
 use Rattle.amount.specs.Biased.{biased, bias, biasedHigh}
 use Rattle.checks.specs.Checks.{maxVaultDeposit}
-use borrow.Author.Needs.{needs}
 use Rattle.checks.proofs.max_vault_deposit.Statement.{statement}
 use Rattle.checks.proofs.max_vault_deposit.Tie as tie
-use Rattle.checks.proofs.max_vault_deposit.Reads as reads
-use Rattle.checks.proofs.max_vault_deposit.Lts as lts
 
 returns : tie.Need-returns
 unfolding biased bias biasedHigh maxVaultDeposit

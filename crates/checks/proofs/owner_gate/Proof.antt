@@ -5,10 +5,6 @@ use native.Mathlib.Omega.{arith}
 use borrow.Author.Needs.{needs}
 use Rattle.checks.proofs.owner_gate.Statement.{statement}
 use Rattle.checks.proofs.owner_gate.Tie as tie
-use Rattle.checks.proofs.owner_gate.Reads as reads
-use Rattle.checks.proofs.owner_gate.Lts as lts
-use Rattle.checks.proofs.owner_check.Reads as owner-check-reads
-use Rattle.checks.proofs.signed_check.Reads as signed-check-reads
 
 owner-check-requires : tie.Need-owner-check-requires
 owner-check-requires c κs = search needs

@@ -5,10 +5,6 @@ use native.Mathlib.Omega.{arith}
 use borrow.Author.Needs.{needs}
 use Rattle.checks.proofs.shared_gate.Statement.{statement}
 use Rattle.checks.proofs.shared_gate.Tie as tie
-use Rattle.checks.proofs.shared_gate.Reads as reads
-use Rattle.checks.proofs.shared_gate.Lts as lts
-use Rattle.checks.proofs.insider_check.Reads as insider-check-reads
-use Rattle.checks.proofs.signed_check.Reads as signed-check-reads
 
 insider-check-requires : tie.Need-insider-check-requires
 insider-check-requires c κs = search needs

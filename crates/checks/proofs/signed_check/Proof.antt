@@ -6,9 +6,6 @@ use mathlib.Core.Path.{refl}
 use borrow.Author.Needs.{needs}
 use Rattle.checks.proofs.signed_check.Statement.{statement}
 use Rattle.checks.proofs.signed_check.Tie as tie
-use Rattle.checks.proofs.signed_check.Reads as reads
-use Rattle.checks.proofs.signed_check.Lts as lts
-use Rattle.checks.proofs.has.Reads as has-reads
 
 has-requires : tie.Need-has-requires
 has-requires c κs = search needs

@@ -5,11 +5,6 @@ use native.Mathlib.Omega.{arith}
 use borrow.Author.Needs.{needs}
 use Rattle.handover.proofs.accept_check.Statement.{statement}
 use Rattle.handover.proofs.accept_check.Tie as tie
-use Rattle.handover.proofs.accept_check.Reads as reads
-use Rattle.handover.proofs.accept_check.Lts as lts
-use Rattle.checks.proofs.signed_check.Reads as signed-check-reads
-use Rattle.handover.proofs.expired_check.Reads as expired-check-reads
-use Rattle.handover.proofs.pending_check.Reads as pending-check-reads
 
 pending-check-requires : tie.Need-pending-check-requires
 pending-check-requires c κs = search needs

@@ -6,12 +6,6 @@ use mathlib.Core.Path.{refl}
 use borrow.Author.Needs.{needs}
 use Rattle.handover.proofs.accept_owner.Statement.{statement}
 use Rattle.handover.proofs.accept_owner.Tie as tie
-use Rattle.handover.proofs.accept_owner.Reads as reads
-use Rattle.handover.proofs.accept_owner.Lts as lts
-use Rattle.handover.proofs.accept_owner_of.Reads as accept-owner-of-reads
-use Rattle.record.proofs.caller.Reads as caller-reads
-use Rattle.record.proofs.signers.Reads as signers-reads
-use Rattle.record.proofs.timestamp.Reads as timestamp-reads
 
 caller-requires : tie.Need-caller-requires
 caller-requires c κs = search needs

@@ -5,15 +5,6 @@ use mathlib.Core.Path.{sym, _∙_}
 use borrow.Author.Needs.{needs}
 use Rattle.handover.proofs.accept_owner_of.Statement.{statement}
 use Rattle.handover.proofs.accept_owner_of.Tie as tie
-use Rattle.handover.proofs.accept_owner_of.Reads as reads
-use Rattle.handover.proofs.accept_owner_of.Lts as lts
-use Rattle.events.proofs.owner_accepted.Reads as owner-accepted-reads
-use Rattle.fields.proofs.get8.Reads as get8-reads
-use Rattle.fields.proofs.put8.Reads as put8-reads
-use Rattle.handover.proofs.accept_check.Reads as accept-check-reads
-use Rattle.handover.proofs.clear_pending.Reads as clear-pending-reads
-use Rattle.outcome.proofs.announce.Reads as announce-reads
-use Rattle.outcome.proofs.refuse.Reads as refuse-reads
 
 accept-check-requires : tie.Need-accept-check-requires
 accept-check-requires c κs = search needs

@@ -3,11 +3,6 @@ use Rattle.handover.specs.Handover.{clearPending}
 use borrow.Author.Needs.{needs}
 use Rattle.handover.proofs.clear_pending.Statement.{statement}
 use Rattle.handover.proofs.clear_pending.Tie as tie
-use Rattle.handover.proofs.clear_pending.Reads as reads
-use Rattle.handover.proofs.clear_pending.Lts as lts
-use Rattle.fields.proofs.put64.Reads as put64-reads
-use Rattle.fields.proofs.put8.Reads as put8-reads
-use Rattle.storage.proofs.clear_flag.Reads as clear-flag-reads
 
 clear-flag-requires : tie.Need-clear-flag-requires
 clear-flag-requires c κs = search needs

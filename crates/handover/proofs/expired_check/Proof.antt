@@ -6,9 +6,6 @@ use mathlib.Core.Path.{refl}
 use borrow.Author.Needs.{needs}
 use Rattle.handover.proofs.expired_check.Statement.{statement}
 use Rattle.handover.proofs.expired_check.Tie as tie
-use Rattle.handover.proofs.expired_check.Reads as reads
-use Rattle.handover.proofs.expired_check.Lts as lts
-use Rattle.fields.proofs.get64.Reads as get64-reads
 
 get64-requires : tie.Need-get64-requires
 get64-requires c κs = search needs

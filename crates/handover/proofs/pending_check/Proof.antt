@@ -6,10 +6,6 @@ use mathlib.Core.Path.{refl}
 use borrow.Author.Needs.{needs}
 use Rattle.handover.proofs.pending_check.Statement.{statement}
 use Rattle.handover.proofs.pending_check.Tie as tie
-use Rattle.handover.proofs.pending_check.Reads as reads
-use Rattle.handover.proofs.pending_check.Lts as lts
-use Rattle.checks.proofs.flag_of.Reads as flag-of-reads
-use Rattle.fields.proofs.get8.Reads as get8-reads
 
 flag-of-requires : tie.Need-flag-of-requires
 flag-of-requires c κs = search needs

@@ -5,10 +5,6 @@ use native.Mathlib.Omega.{arith}
 use borrow.Author.Needs.{needs}
 use Rattle.handover.proofs.proposal_ttl_check.Statement.{statement}
 use Rattle.handover.proofs.proposal_ttl_check.Tie as tie
-use Rattle.handover.proofs.proposal_ttl_check.Reads as reads
-use Rattle.handover.proofs.proposal_ttl_check.Lts as lts
-use Rattle.checks.proofs.owner_gate.Reads as owner-gate-reads
-use Rattle.handover.proofs.ttl_check.Reads as ttl-check-reads
 
 owner-gate-requires : tie.Need-owner-gate-requires
 owner-gate-requires c κs = search needs

@@ -5,10 +5,6 @@ use native.Mathlib.Omega.{arith}
 use borrow.Author.Needs.{needs}
 use Rattle.handover.proofs.propose_check.Statement.{statement}
 use Rattle.handover.proofs.propose_check.Tie as tie
-use Rattle.handover.proofs.propose_check.Reads as reads
-use Rattle.handover.proofs.propose_check.Lts as lts
-use Rattle.checks.proofs.owner_gate.Reads as owner-gate-reads
-use Rattle.handover.proofs.new_owner_check.Reads as new-owner-check-reads
 
 owner-gate-requires : tie.Need-owner-gate-requires
 owner-gate-requires c κs = search needs

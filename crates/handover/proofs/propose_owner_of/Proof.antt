@@ -5,15 +5,6 @@ use mathlib.Core.Path.{sym, _∙_}
 use borrow.Author.Needs.{needs}
 use Rattle.handover.proofs.propose_owner_of.Statement.{statement}
 use Rattle.handover.proofs.propose_owner_of.Tie as tie
-use Rattle.handover.proofs.propose_owner_of.Reads as reads
-use Rattle.handover.proofs.propose_owner_of.Lts as lts
-use Rattle.events.proofs.owner_proposed.Reads as owner-proposed-reads
-use Rattle.fields.proofs.put64.Reads as put64-reads
-use Rattle.fields.proofs.put8.Reads as put8-reads
-use Rattle.handover.proofs.propose_check.Reads as propose-check-reads
-use Rattle.outcome.proofs.announce.Reads as announce-reads
-use Rattle.outcome.proofs.refuse.Reads as refuse-reads
-use Rattle.storage.proofs.set_flag.Reads as set-flag-reads
 
 propose-check-requires : tie.Need-propose-check-requires
 propose-check-requires c κs = search needs

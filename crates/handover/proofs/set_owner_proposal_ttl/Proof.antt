@@ -6,12 +6,6 @@ use mathlib.Core.Path.{refl}
 use borrow.Author.Needs.{needs}
 use Rattle.handover.proofs.set_owner_proposal_ttl.Statement.{statement}
 use Rattle.handover.proofs.set_owner_proposal_ttl.Tie as tie
-use Rattle.handover.proofs.set_owner_proposal_ttl.Reads as reads
-use Rattle.handover.proofs.set_owner_proposal_ttl.Lts as lts
-use Rattle.handover.proofs.set_owner_proposal_ttl_of.Reads as set-owner-proposal-ttl-of-reads
-use Rattle.record.proofs.caller.Reads as caller-reads
-use Rattle.record.proofs.signers.Reads as signers-reads
-use Rattle.record.proofs.time_to_live.Reads as time-to-live-reads
 
 caller-requires : tie.Need-caller-requires
 caller-requires c κs = search needs

@@ -5,14 +5,6 @@ use mathlib.Core.Path.{sym, _∙_}
 use borrow.Author.Needs.{needs}
 use Rattle.handover.proofs.set_owner_proposal_ttl_of.Statement.{statement}
 use Rattle.handover.proofs.set_owner_proposal_ttl_of.Tie as tie
-use Rattle.handover.proofs.set_owner_proposal_ttl_of.Reads as reads
-use Rattle.handover.proofs.set_owner_proposal_ttl_of.Lts as lts
-use Rattle.events.proofs.owner_proposal_ttl_set.Reads as owner-proposal-ttl-set-reads
-use Rattle.fields.proofs.get64.Reads as get64-reads
-use Rattle.fields.proofs.put64.Reads as put64-reads
-use Rattle.handover.proofs.proposal_ttl_check.Reads as proposal-ttl-check-reads
-use Rattle.outcome.proofs.announce.Reads as announce-reads
-use Rattle.outcome.proofs.refuse.Reads as refuse-reads
 
 proposal-ttl-check-requires : tie.Need-proposal-ttl-check-requires
 proposal-ttl-check-requires c κs = search needs

@@ -3,9 +3,6 @@ use Rattle.image.specs.Laws.{sign-two}
 use borrow.Author.Needs.{needs}
 use Rattle.image.proofs.above_at.Statement.{statement}
 use Rattle.image.proofs.above_at.Tie as tie
-use Rattle.image.proofs.above_at.Reads as reads
-use Rattle.image.proofs.above_at.Lts as lts
-use Rattle.image.proofs.sign_at.Reads as sign-at-reads
 
 sign-at-requires : tie.Need-sign-at-requires
 sign-at-requires c κs = search needs

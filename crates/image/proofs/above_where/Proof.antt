@@ -4,11 +4,6 @@ use Rattle.image.specs.Good.{aboveWhere}
 use borrow.Author.Needs.{needs}
 use Rattle.image.proofs.above_where.Statement.{statement}
 use Rattle.image.proofs.above_where.Tie as tie
-use Rattle.image.proofs.above_where.Reads as reads
-use Rattle.image.proofs.above_where.Lts as lts
-use Rattle.image.proofs.above_at.Reads as above-at-reads
-use Rattle.image.proofs.bit_of.Reads as bit-of-reads
-use Rattle.image.proofs.nothing_at.Reads as nothing-at-reads
 
 bit-of-requires : tie.Need-bit-of-requires
 bit-of-requires c κs = search needs

@@ -5,9 +5,6 @@ use lib.Dec.{ltb}
 use borrow.Author.Needs.{needs}
 use Rattle.image.proofs.address_at.Statement.{statement}
 use Rattle.image.proofs.address_at.Tie as tie
-use Rattle.image.proofs.address_at.Reads as reads
-use Rattle.image.proofs.address_at.Lts as lts
-use Rattle.fields.proofs.get8.Reads as get8-reads
 
 get8-requires : tie.Need-get8-requires
 get8-requires c κs = search needs

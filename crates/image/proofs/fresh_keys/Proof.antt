@@ -9,9 +9,6 @@ use Rattle.image.specs.Laws.{Seen, seen-none, seen-step, stale-far, stal
 use borrow.Author.Needs.{needs}
 use Rattle.image.proofs.fresh_keys.Statement.{statement}
 use Rattle.image.proofs.fresh_keys.Tie as tie
-use Rattle.image.proofs.fresh_keys.Reads as reads
-use Rattle.image.proofs.fresh_keys.Lts as lts
-use Rattle.fields.proofs.get16.Reads as get16-reads
 
 abbrev Inv-loop : tie.InvT-loop
 Inv-loop s n seen₀ i₀ seen i = (i ≤ n) × (length seen ≡ 1088) × (true ≡ all (freshKey s) i) × Seen s i seen

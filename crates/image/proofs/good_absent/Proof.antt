@@ -3,13 +3,6 @@ use Rattle.image.specs.Good.{goodAbsent}
 use borrow.Author.Needs.{needs}
 use Rattle.image.proofs.good_absent.Statement.{statement}
 use Rattle.image.proofs.good_absent.Tie as tie
-use Rattle.image.proofs.good_absent.Reads as reads
-use Rattle.image.proofs.good_absent.Lts as lts
-use Rattle.fields.proofs.get32.Reads as get32-reads
-use Rattle.fields.proofs.both.Reads as both-reads
-use Rattle.image.proofs.nothing_at.Reads as nothing-at-reads
-use Rattle.image.proofs.same.Reads as same-reads
-use Rattle.fields.proofs.are_zero.Reads as are-zero-reads
 
 mul-nothing-at : tie.Need-mul-nothing-at
 mul-nothing-at c = search needs

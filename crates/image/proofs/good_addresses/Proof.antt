@@ -3,10 +3,6 @@ use Rattle.image.specs.Good.{goodAddresses}
 use borrow.Author.Needs.{needs}
 use Rattle.image.proofs.good_addresses.Statement.{statement}
 use Rattle.image.proofs.good_addresses.Tie as tie
-use Rattle.image.proofs.good_addresses.Reads as reads
-use Rattle.image.proofs.good_addresses.Lts as lts
-use Rattle.image.proofs.address_at.Reads as address-at-reads
-use Rattle.fields.proofs.both.Reads as both-reads
 
 address-at-requires : tie.Need-address-at-requires
 address-at-requires c κs = search needs

@@ -9,10 +9,6 @@ use Rattle.image.specs.Good.{goodCap}
 use borrow.Author.Needs.{needs}
 use Rattle.image.proofs.good_caps.Statement.{statement}
 use Rattle.image.proofs.good_caps.Tie as tie
-use Rattle.image.proofs.good_caps.Reads as reads
-use Rattle.image.proofs.good_caps.Lts as lts
-use Rattle.fields.proofs.get64.Reads as get64-reads
-use Rattle.image.proofs.above_where.Reads as above-where-reads
 
 abbrev Inv-loop : tie.InvT-loop
 Inv-loop s set a₀ a = (a ≤ 64) × (true ≡ all (goodCap s) a)

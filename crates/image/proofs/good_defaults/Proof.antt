@@ -8,13 +8,6 @@ use Rattle.image.specs.Good.{goodDefaults}
 use borrow.Author.Needs.{needs}
 use Rattle.image.proofs.good_defaults.Statement.{statement}
 use Rattle.image.proofs.good_defaults.Tie as tie
-use Rattle.image.proofs.good_defaults.Reads as reads
-use Rattle.image.proofs.good_defaults.Lts as lts
-use Rattle.fields.proofs.get64.Reads as get64-reads
-use Rattle.fields.proofs.get8.Reads as get8-reads
-use Rattle.image.proofs.above_at.Reads as above-at-reads
-use Rattle.image.proofs.below.Reads as below-reads
-use Rattle.fields.proofs.both.Reads as both-reads
 
 above-at-requires : tie.Need-above-at-requires
 above-at-requires c κs = search needs

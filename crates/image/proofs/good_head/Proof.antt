@@ -12,15 +12,6 @@ use Rattle.image.specs.Laws.{token-address}
 use borrow.Author.Needs.{needs}
 use Rattle.image.proofs.good_head.Statement.{statement}
 use Rattle.image.proofs.good_head.Tie as tie
-use Rattle.image.proofs.good_head.Reads as reads
-use Rattle.image.proofs.good_head.Lts as lts
-use Rattle.fields.proofs.get16.Reads as get16-reads
-use Rattle.image.proofs.bit_of.Reads as bit-of-reads
-use Rattle.fields.proofs.both.Reads as both-reads
-use Rattle.image.proofs.good_addresses.Reads as good-addresses-reads
-use Rattle.image.proofs.good_defaults.Reads as good-defaults-reads
-use Rattle.image.proofs.good_options.Reads as good-options-reads
-use Rattle.fields.proofs.are_zero.Reads as are-zero-reads
 
 get16-requires : tie.Need-get16-requires
 get16-requires c κs = search needs

@@ -9,13 +9,6 @@ use Rattle.fields.specs.Bytes.{bytes-from}
 use borrow.Author.Needs.{needs}
 use Rattle.image.proofs.good_image.Statement.{statement}
 use Rattle.image.proofs.good_image.Tie as tie
-use Rattle.image.proofs.good_image.Reads as reads
-use Rattle.image.proofs.good_image.Lts as lts
-use Rattle.fields.proofs.both.Reads as both-reads
-use Rattle.image.proofs.good_caps.Reads as good-caps-reads
-use Rattle.image.proofs.good_head.Reads as good-head-reads
-use Rattle.image.proofs.good_keys.Reads as good-keys-reads
-use Rattle.image.proofs.good_tokens.Reads as good-tokens-reads
 
 returns : tie.Need-returns
 unfolding goodImage

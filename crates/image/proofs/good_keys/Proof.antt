@@ -5,12 +5,6 @@ use Rattle.image.specs.Good.{goodKeys}
 use borrow.Author.Needs.{needs}
 use Rattle.image.proofs.good_keys.Statement.{statement}
 use Rattle.image.proofs.good_keys.Tie as tie
-use Rattle.image.proofs.good_keys.Reads as reads
-use Rattle.image.proofs.good_keys.Lts as lts
-use Rattle.fields.proofs.get64.Reads as get64-reads
-use Rattle.fields.proofs.both.Reads as both-reads
-use Rattle.image.proofs.fresh_keys.Reads as fresh-keys-reads
-use Rattle.fields.proofs.are_zero.Reads as are-zero-reads
 
 get64-requires : tie.Need-get64-requires
 get64-requires c κs = search needs

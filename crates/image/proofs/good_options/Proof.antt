@@ -3,15 +3,6 @@ use Rattle.image.specs.Good.{goodOptions}
 use borrow.Author.Needs.{needs}
 use Rattle.image.proofs.good_options.Statement.{statement}
 use Rattle.image.proofs.good_options.Tie as tie
-use Rattle.image.proofs.good_options.Reads as reads
-use Rattle.image.proofs.good_options.Lts as lts
-use Rattle.image.proofs.above_where.Reads as above-where-reads
-use Rattle.image.proofs.bit_of.Reads as bit-of-reads
-use Rattle.fields.proofs.both.Reads as both-reads
-use Rattle.fields.proofs.either.Reads as either-reads
-use Rattle.image.proofs.good_migration.Reads as good-migration-reads
-use Rattle.image.proofs.good_pending.Reads as good-pending-reads
-use Rattle.image.proofs.zero8_at.Reads as zero8-at-reads
 
 bit-of-requires : tie.Need-bit-of-requires
 bit-of-requires c κs = search needs

@@ -3,11 +3,6 @@ use Rattle.image.specs.Good.{goodPresent}
 use borrow.Author.Needs.{needs}
 use Rattle.image.proofs.good_present.Statement.{statement}
 use Rattle.image.proofs.good_present.Tie as tie
-use Rattle.image.proofs.good_present.Reads as reads
-use Rattle.image.proofs.good_present.Lts as lts
-use Rattle.fields.proofs.both.Reads as both-reads
-use Rattle.image.proofs.not_negative_at.Reads as not-negative-at-reads
-use Rattle.image.proofs.not_negatives.Reads as not-negatives-reads
 
 mul-not-negative-at : tie.Need-mul-not-negative-at
 mul-not-negative-at c = search needs

@@ -3,14 +3,6 @@ use Rattle.image.specs.Good.{goodSnapshot}
 use borrow.Author.Needs.{needs}
 use Rattle.image.proofs.good_snapshot.Statement.{statement}
 use Rattle.image.proofs.good_snapshot.Tie as tie
-use Rattle.image.proofs.good_snapshot.Reads as reads
-use Rattle.image.proofs.good_snapshot.Lts as lts
-use Rattle.fields.proofs.get32.Reads as get32-reads
-use Rattle.image.proofs.below.Reads as below-reads
-use Rattle.fields.proofs.both.Reads as both-reads
-use Rattle.fields.proofs.either.Reads as either-reads
-use Rattle.image.proofs.nothing_at.Reads as nothing-at-reads
-use Rattle.image.proofs.same.Reads as same-reads
 
 mul-at : tie.Need-mul-at
 mul-at c = search needs

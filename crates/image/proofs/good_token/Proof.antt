@@ -8,14 +8,6 @@ use Rattle.image.specs.Good.{goodToken}
 use borrow.Author.Needs.{needs}
 use Rattle.image.proofs.good_token.Statement.{statement}
 use Rattle.image.proofs.good_token.Tie as tie
-use Rattle.image.proofs.good_token.Reads as reads
-use Rattle.image.proofs.good_token.Lts as lts
-use Rattle.fields.proofs.get64.Reads as get64-reads
-use Rattle.image.proofs.below.Reads as below-reads
-use Rattle.fields.proofs.both.Reads as both-reads
-use Rattle.image.proofs.good_absent.Reads as good-absent-reads
-use Rattle.image.proofs.good_present.Reads as good-present-reads
-use Rattle.image.proofs.good_snapshot.Reads as good-snapshot-reads
 
 mul-get64 : tie.Need-mul-get64
 mul-get64 c = search needs

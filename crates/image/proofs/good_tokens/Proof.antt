@@ -8,9 +8,6 @@ use Rattle.image.specs.Good.{goodToken}
 use borrow.Author.Needs.{needs}
 use Rattle.image.proofs.good_tokens.Statement.{statement}
 use Rattle.image.proofs.good_tokens.Tie as tie
-use Rattle.image.proofs.good_tokens.Reads as reads
-use Rattle.image.proofs.good_tokens.Lts as lts
-use Rattle.image.proofs.good_token.Reads as good-token-reads
 
 abbrev Inv-loop : tie.InvT-loop
 Inv-loop s t₀ t = (t ≤ 16) × (true ≡ all (goodToken s) t)

@@ -8,8 +8,6 @@ use Rattle.image.specs.Laws.{notNegatives-from, sign-off, sign-on, not-n
 use borrow.Author.Needs.{needs}
 use Rattle.image.proofs.not_negatives.Statement.{statement}
 use Rattle.image.proofs.not_negatives.Tie as tie
-use Rattle.image.proofs.not_negatives.Reads as reads
-use Rattle.image.proofs.not_negatives.Lts as lts
 
 abbrev Inv-loop : tie.InvT-loop
 Inv-loop s a n i₀ i = (i ≤ n) × ((k : ℕ) → k < i → bias ≤ amountAt s (a + 16 * k))

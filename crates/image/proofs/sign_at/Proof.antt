@@ -1,12 +1,7 @@
 -- `image::sign_at` meets its contract.
-use mathlib.Core.Path.{_∙_}
 use borrow.Author.Needs.{needs}
 use Rattle.image.proofs.sign_at.Statement.{statement}
 use Rattle.image.proofs.sign_at.Tie as tie
-use Rattle.image.proofs.sign_at.Reads as reads
-use Rattle.image.proofs.sign_at.Lts as lts
-use Rattle.amount.proofs.read_amount.Reads as read-amount-reads
-use Rattle.amount.proofs.sign.Reads as sign-reads
 
 read-amount-requires : tie.Need-read-amount-requires
 read-amount-requires c κs = search needs

@@ -5,9 +5,6 @@ use lib.Dec.{eqb}
 use borrow.Author.Needs.{needs}
 use Rattle.image.proofs.zero64_at.Statement.{statement}
 use Rattle.image.proofs.zero64_at.Tie as tie
-use Rattle.image.proofs.zero64_at.Reads as reads
-use Rattle.image.proofs.zero64_at.Lts as lts
-use Rattle.fields.proofs.get64.Reads as get64-reads
 
 get64-requires : tie.Need-get64-requires
 get64-requires c κs = search needs

@@ -5,13 +5,6 @@ use mathlib.Core.Path.{sym, _∙_}
 use borrow.Author.Needs.{needs}
 use Rattle.migration.proofs.cancel_emergency_migration_of.Statement.{statement}
 use Rattle.migration.proofs.cancel_emergency_migration_of.Tie as tie
-use Rattle.migration.proofs.cancel_emergency_migration_of.Reads as reads
-use Rattle.migration.proofs.cancel_emergency_migration_of.Lts as lts
-use Rattle.events.proofs.emergency_migration_cancelled.Reads as emergency-migration-cancelled-reads
-use Rattle.migration.proofs.cancel_check.Reads as cancel-check-reads
-use Rattle.migration.proofs.clear_migration.Reads as clear-migration-reads
-use Rattle.outcome.proofs.announce.Reads as announce-reads
-use Rattle.outcome.proofs.refuse.Reads as refuse-reads
 
 cancel-check-requires : tie.Need-cancel-check-requires
 cancel-check-requires c κs = search needs

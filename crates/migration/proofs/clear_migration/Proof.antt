@@ -3,11 +3,6 @@ use Rattle.migration.specs.Migration.{clearMigration}
 use borrow.Author.Needs.{needs}
 use Rattle.migration.proofs.clear_migration.Statement.{statement}
 use Rattle.migration.proofs.clear_migration.Tie as tie
-use Rattle.migration.proofs.clear_migration.Reads as reads
-use Rattle.migration.proofs.clear_migration.Lts as lts
-use Rattle.fields.proofs.put64.Reads as put64-reads
-use Rattle.fields.proofs.put8.Reads as put8-reads
-use Rattle.storage.proofs.clear_flag.Reads as clear-flag-reads
 
 clear-flag-requires : tie.Need-clear-flag-requires
 clear-flag-requires c κs = search needs

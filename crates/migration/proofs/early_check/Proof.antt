@@ -6,9 +6,6 @@ use mathlib.Core.Path.{refl}
 use borrow.Author.Needs.{needs}
 use Rattle.migration.proofs.early_check.Statement.{statement}
 use Rattle.migration.proofs.early_check.Tie as tie
-use Rattle.migration.proofs.early_check.Reads as reads
-use Rattle.migration.proofs.early_check.Lts as lts
-use Rattle.fields.proofs.get64.Reads as get64-reads
 
 get64-requires : tie.Need-get64-requires
 get64-requires c κs = search needs

@@ -5,11 +5,6 @@ use native.Mathlib.Omega.{arith}
 use borrow.Author.Needs.{needs}
 use Rattle.migration.proofs.execute_check.Statement.{statement}
 use Rattle.migration.proofs.execute_check.Tie as tie
-use Rattle.migration.proofs.execute_check.Reads as reads
-use Rattle.migration.proofs.execute_check.Lts as lts
-use Rattle.checks.proofs.owner_gate.Reads as owner-gate-reads
-use Rattle.migration.proofs.early_check.Reads as early-check-reads
-use Rattle.migration.proofs.migration_check.Reads as migration-check-reads
 
 owner-gate-requires : tie.Need-owner-gate-requires
 owner-gate-requires c κs = search needs

@@ -6,16 +6,6 @@ use mathlib.Core.Path.{sym, _∙_}
 use borrow.Author.Needs.{needs}
 use Rattle.migration.proofs.execute_emergency_migration_of.Statement.{statement}
 use Rattle.migration.proofs.execute_emergency_migration_of.Tie as tie
-use Rattle.migration.proofs.execute_emergency_migration_of.Reads as reads
-use Rattle.migration.proofs.execute_emergency_migration_of.Lts as lts
-use Rattle.events.proofs.emergency_migration_executed.Reads as emergency-migration-executed-reads
-use Rattle.fields.proofs.get8.Reads as get8-reads
-use Rattle.migration.proofs.clear_migration.Reads as clear-migration-reads
-use Rattle.migration.proofs.execute_check.Reads as execute-check-reads
-use Rattle.migration.proofs.migrate_holding.Reads as migrate-holding-reads
-use Rattle.token.proofs.vault_balance.Reads as vault-balance-reads
-use Rattle.outcome.proofs.announce_value.Reads as announce-value-reads
-use Rattle.outcome.proofs.refuse.Reads as refuse-reads
 
 execute-check-requires : tie.Need-execute-check-requires
 execute-check-requires c κs = search needs

@@ -5,10 +5,6 @@ use native.Mathlib.Omega.{arith}
 use borrow.Author.Needs.{needs}
 use Rattle.migration.proofs.initiate_check.Statement.{statement}
 use Rattle.migration.proofs.initiate_check.Tie as tie
-use Rattle.migration.proofs.initiate_check.Reads as reads
-use Rattle.migration.proofs.initiate_check.Lts as lts
-use Rattle.checks.proofs.owner_gate.Reads as owner-gate-reads
-use Rattle.migration.proofs.proposal_check.Reads as proposal-check-reads
 
 owner-gate-requires : tie.Need-owner-gate-requires
 owner-gate-requires c κs = search needs

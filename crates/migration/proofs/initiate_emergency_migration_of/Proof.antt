@@ -7,15 +7,6 @@ use mathlib.Core.Path.{sym, _∙_}
 use borrow.Author.Needs.{needs}
 use Rattle.migration.proofs.initiate_emergency_migration_of.Statement.{statement}
 use Rattle.migration.proofs.initiate_emergency_migration_of.Tie as tie
-use Rattle.migration.proofs.initiate_emergency_migration_of.Reads as reads
-use Rattle.migration.proofs.initiate_emergency_migration_of.Lts as lts
-use Rattle.events.proofs.emergency_migration_initiated.Reads as emergency-migration-initiated-reads
-use Rattle.fields.proofs.put64.Reads as put64-reads
-use Rattle.fields.proofs.put8.Reads as put8-reads
-use Rattle.migration.proofs.initiate_check.Reads as initiate-check-reads
-use Rattle.outcome.proofs.announce.Reads as announce-reads
-use Rattle.outcome.proofs.refuse.Reads as refuse-reads
-use Rattle.storage.proofs.set_flag.Reads as set-flag-reads
 
 initiate-check-requires : tie.Need-initiate-check-requires
 initiate-check-requires c κs = search needs

@@ -4,12 +4,6 @@ use native.Mathlib.Omega.{arith}
 use borrow.Author.Needs.{needs}
 use Rattle.migration.proofs.migrate_holding.Statement.{statement}
 use Rattle.migration.proofs.migrate_holding.Tie as tie
-use Rattle.migration.proofs.migrate_holding.Reads as reads
-use Rattle.migration.proofs.migrate_holding.Lts as lts
-use Rattle.amount.proofs.below.Reads as below-reads
-use Rattle.amount.proofs.zero.Reads as zero-reads
-use Rattle.fields.proofs.get8.Reads as get8-reads
-use Rattle.token.proofs.transfer.Reads as transfer-reads
 
 zero-requires : tie.Need-zero-requires
 zero-requires c κs = search needs

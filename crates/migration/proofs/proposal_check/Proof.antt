@@ -6,8 +6,6 @@ use mathlib.Core.Path.{refl}
 use borrow.Author.Needs.{needs}
 use Rattle.migration.proofs.proposal_check.Statement.{statement}
 use Rattle.migration.proofs.proposal_check.Tie as tie
-use Rattle.migration.proofs.proposal_check.Reads as reads
-use Rattle.migration.proofs.proposal_check.Lts as lts
 
 returns : tie.Need-returns
 unfolding proposalNumber

@@ -2,11 +2,6 @@
 use borrow.Author.Needs.{needs}
 use Rattle.moves.proofs.freeze.Statement.{statement}
 use Rattle.moves.proofs.freeze.Tie as tie
-use Rattle.moves.proofs.freeze.Reads as reads
-use Rattle.moves.proofs.freeze.Lts as lts
-use Rattle.moves.proofs.freeze_of.Reads as freeze-of-reads
-use Rattle.record.proofs.flag.Reads as flag-reads
-use Rattle.record.proofs.token.Reads as token-reads
 
 token-requires : tie.Need-token-requires
 token-requires c κs = search needs

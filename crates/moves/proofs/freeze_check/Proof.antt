@@ -6,9 +6,6 @@ use mathlib.Core.Path.{refl}
 use borrow.Author.Needs.{needs}
 use Rattle.moves.proofs.freeze_check.Statement.{statement}
 use Rattle.moves.proofs.freeze_check.Tie as tie
-use Rattle.moves.proofs.freeze_check.Reads as reads
-use Rattle.moves.proofs.freeze_check.Lts as lts
-use Rattle.token.proofs.presence_check.Reads as presence-check-reads
 
 presence-check-requires : tie.Need-presence-check-requires
 presence-check-requires c κs = search needs

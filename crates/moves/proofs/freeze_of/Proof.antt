@@ -9,13 +9,6 @@ use mathlib.Core.Path.{sym, _∙_}
 use borrow.Author.Needs.{needs}
 use Rattle.moves.proofs.freeze_of.Statement.{statement}
 use Rattle.moves.proofs.freeze_of.Tie as tie
-use Rattle.moves.proofs.freeze_of.Reads as reads
-use Rattle.moves.proofs.freeze_of.Lts as lts
-use Rattle.fields.proofs.put64.Reads as put64-reads
-use Rattle.moves.proofs.freeze_check.Reads as freeze-check-reads
-use Rattle.moves.proofs.frozen_kind.Reads as frozen-kind-reads
-use Rattle.outcome.proofs.done.Reads as done-reads
-use Rattle.outcome.proofs.refuse.Reads as refuse-reads
 
 freeze-check-requires : tie.Need-freeze-check-requires
 freeze-check-requires c κs = search needs

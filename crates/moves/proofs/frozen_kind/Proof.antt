@@ -3,8 +3,6 @@ use Rattle.moves.specs.Outside.{frozenKind}
 use borrow.Author.Tests.{eq-eqb, ne-eqb}
 use Rattle.moves.proofs.frozen_kind.Statement.{statement}
 use Rattle.moves.proofs.frozen_kind.Tie as tie
-use Rattle.moves.proofs.frozen_kind.Reads as reads
-use Rattle.moves.proofs.frozen_kind.Lts as lts
 
 returns : tie.Need-returns
 unfolding frozenKind

@@ -6,13 +6,6 @@ use mathlib.Core.Path.{refl}
 use borrow.Author.Needs.{needs}
 use Rattle.moves.proofs.outside_move.Statement.{statement}
 use Rattle.moves.proofs.outside_move.Tie as tie
-use Rattle.moves.proofs.outside_move.Reads as reads
-use Rattle.moves.proofs.outside_move.Lts as lts
-use Rattle.moves.proofs.outside_move_of.Reads as outside-move-of-reads
-use Rattle.record.proofs.amount.Reads as amount-reads
-use Rattle.record.proofs.caller.Reads as caller-reads
-use Rattle.record.proofs.other.Reads as other-reads
-use Rattle.record.proofs.token.Reads as token-reads
 
 caller-requires : tie.Need-caller-requires
 caller-requires c κs = search needs

@@ -5,10 +5,6 @@ use native.Mathlib.Omega.{arith}
 use borrow.Author.Needs.{needs}
 use Rattle.moves.proofs.outside_move_check.Statement.{statement}
 use Rattle.moves.proofs.outside_move_check.Tie as tie
-use Rattle.moves.proofs.outside_move_check.Reads as reads
-use Rattle.moves.proofs.outside_move_check.Lts as lts
-use Rattle.checks.proofs.amount_check.Reads as amount-check-reads
-use Rattle.moves.proofs.sender_check.Reads as sender-check-reads
 
 sender-check-requires : tie.Need-sender-check-requires
 sender-check-requires c κs = search needs

@@ -7,12 +7,6 @@ use native.Mathlib.Omega.{arith}
 use borrow.Author.Needs.{needs}
 use Rattle.moves.proofs.outside_move_of.Statement.{statement}
 use Rattle.moves.proofs.outside_move_of.Tie as tie
-use Rattle.moves.proofs.outside_move_of.Reads as reads
-use Rattle.moves.proofs.outside_move_of.Lts as lts
-use Rattle.moves.proofs.outside_move_check.Reads as outside-move-check-reads
-use Rattle.outcome.proofs.done.Reads as done-reads
-use Rattle.outcome.proofs.refuse.Reads as refuse-reads
-use Rattle.token.proofs.transfer.Reads as transfer-reads
 
 outside-move-check-requires : tie.Need-outside-move-check-requires
 outside-move-check-requires c κs = search needs

@@ -5,8 +5,6 @@ use native.Mathlib.Omega.{arith}
 use mathlib.Core.Path.{refl}
 use Rattle.moves.proofs.sender_check.Statement.{statement}
 use Rattle.moves.proofs.sender_check.Tie as tie
-use Rattle.moves.proofs.sender_check.Reads as reads
-use Rattle.moves.proofs.sender_check.Lts as lts
 
 returns : tie.Need-returns
 unfolding senderNumber

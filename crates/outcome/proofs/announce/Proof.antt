@@ -7,10 +7,6 @@ use mathlib.Core.Path.{refl}
 use borrow.Author.Needs.{needs}
 use Rattle.outcome.proofs.announce.Statement.{statement}
 use Rattle.outcome.proofs.announce.Tie as tie
-use Rattle.outcome.proofs.announce.Reads as reads
-use Rattle.outcome.proofs.announce.Lts as lts
-use Rattle.events.proofs.put_event.Reads as put-event-reads
-use Rattle.outcome.proofs.done.Reads as done-reads
 
 put-event-requires : tie.Need-put-event-requires
 put-event-requires c κs = (blank-long (c .before .before .pre), omega arith)

@@ -7,9 +7,6 @@ use mathlib.Core.Path.{refl}
 use borrow.Author.Needs.{needs}
 use Rattle.outcome.proofs.announce_value.Statement.{statement}
 use Rattle.outcome.proofs.announce_value.Tie as tie
-use Rattle.outcome.proofs.announce_value.Reads as reads
-use Rattle.outcome.proofs.announce_value.Lts as lts
-use Rattle.events.proofs.put_event.Reads as put-event-reads
 
 put-event-requires : tie.Need-put-event-requires
 put-event-requires c κs = (blank-long (c .before .before .pre), omega arith)

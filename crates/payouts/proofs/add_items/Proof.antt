@@ -9,12 +9,6 @@ use mathlib.Core.Path.{_≡_, sym, _∙_}
 use borrow.Author.Needs.{needs}
 use Rattle.payouts.proofs.add_items.Statement.{statement}
 use Rattle.payouts.proofs.add_items.Tie as tie
-use Rattle.payouts.proofs.add_items.Reads as reads
-use Rattle.payouts.proofs.add_items.Lts as lts
-use Rattle.amount.proofs.plus.Reads as plus-reads
-use Rattle.amount.proofs.zero.Reads as zero-reads
-use Rattle.payouts.proofs.item_check.Reads as item-check-reads
-use Rattle.record.proofs.item_amount.Reads as item-amount-reads
 
 abbrev Inv-loop : tie.InvT-loop
 Inv-loop rec count sum₀ i₀ sum i =

@@ -8,15 +8,6 @@ use native.Mathlib.Omega.{arith}
 use borrow.Author.Needs.{needs}
 use Rattle.payouts.proofs.batch_checks.Statement.{statement}
 use Rattle.payouts.proofs.batch_checks.Tie as tie
-use Rattle.payouts.proofs.batch_checks.Reads as reads
-use Rattle.payouts.proofs.batch_checks.Lts as lts
-use Rattle.checks.proofs.cap_check.Reads as cap-check-reads
-use Rattle.checks.proofs.funds_check.Reads as funds-check-reads
-use Rattle.checks.proofs.paused_check.Reads as paused-check-reads
-use Rattle.checks.proofs.shared_gate.Reads as shared-gate-reads
-use Rattle.fields.proofs.get8.Reads as get8-reads
-use Rattle.payouts.proofs.add_items.Reads as add-items-reads
-use Rattle.token.proofs.balance.Reads as balance-reads
 
 paused-check-requires : tie.Need-paused-check-requires
 paused-check-requires c κs = search needs

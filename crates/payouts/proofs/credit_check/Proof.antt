@@ -6,11 +6,6 @@ use mathlib.Core.Path.{refl}
 use borrow.Author.Needs.{needs}
 use Rattle.payouts.proofs.credit_check.Statement.{statement}
 use Rattle.payouts.proofs.credit_check.Tie as tie
-use Rattle.payouts.proofs.credit_check.Reads as reads
-use Rattle.payouts.proofs.credit_check.Lts as lts
-use Rattle.amount.proofs.below.Reads as below-reads
-use Rattle.amount.proofs.read_amount.Reads as read-amount-reads
-use Rattle.fields.proofs.get8.Reads as get8-reads
 
 get8-requires : tie.Need-get8-requires
 get8-requires c κs = search needs
@@ -19,23 +14,8 @@ returns : tie.Need-returns
 unfolding creditNumber
 returns c = stop-at _ 0 _ (omega arith) refl
 
-sub-read-amount : tie.Need-sub-read-amount
-sub-read-amount c = search needs
-
-mul-read-amount : tie.Need-mul-read-amount
-mul-read-amount c = search needs
-
-add-read-amount : tie.Need-add-read-amount
-add-read-amount c = search needs
-
-mul-read-amount-2 : tie.Need-mul-read-amount-2
-mul-read-amount-2 c = search needs
-
-add-read-amount-2 : tie.Need-add-read-amount-2
-add-read-amount-2 c = search needs
-
-read-amount-requires : tie.Need-read-amount-requires
-read-amount-requires c κs = search needs
+get-token-account-balance-requires : tie.Need-get-token-account-balance-requires
+get-token-account-balance-requires c κs = search needs
 
 below-requires : tie.Need-below-requires
 below-requires c κs = search needs
@@ -54,12 +34,7 @@ credit-check-spec =
     (tie.spec
     get8-requires
     returns
-    sub-read-amount
-    mul-read-amount
-    add-read-amount
-    mul-read-amount-2
-    add-read-amount-2
-    read-amount-requires
+    get-token-account-balance-requires
     below-requires
     returns-2
     returns-3)

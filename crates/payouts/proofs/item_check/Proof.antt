@@ -6,11 +6,6 @@ use mathlib.Core.Path.{refl}
 use borrow.Author.Needs.{needs}
 use Rattle.payouts.proofs.item_check.Statement.{statement}
 use Rattle.payouts.proofs.item_check.Tie as tie
-use Rattle.payouts.proofs.item_check.Reads as reads
-use Rattle.payouts.proofs.item_check.Lts as lts
-use Rattle.amount.proofs.below.Reads as below-reads
-use Rattle.amount.proofs.passes.Reads as passes-reads
-use Rattle.amount.proofs.zero.Reads as zero-reads
 
 zero-requires : tie.Need-zero-requires
 zero-requires c κs = search needs

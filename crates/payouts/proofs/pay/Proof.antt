@@ -4,13 +4,6 @@ use Rattle.amount.specs.Biased.{biased, num}
 use borrow.Author.Needs.{needs}
 use Rattle.payouts.proofs.pay.Statement.{statement}
 use Rattle.payouts.proofs.pay.Tie as tie
-use Rattle.payouts.proofs.pay.Reads as reads
-use Rattle.payouts.proofs.pay.Lts as lts
-use Rattle.events.proofs.put_event.Reads as put-event-reads
-use Rattle.events.proofs.withdrawn.Reads as withdrawn-reads
-use Rattle.payouts.proofs.send.Reads as send-reads
-use Rattle.storage.proofs.record_vault_balance.Reads as record-vault-balance-reads
-use Rattle.token.proofs.balance.Reads as balance-reads
 
 send-requires : tie.Need-send-requires
 send-requires c κs = search needs

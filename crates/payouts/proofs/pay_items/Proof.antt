@@ -9,11 +9,6 @@ use Prim.Native.Nat.{_+_, _-_, _≤_}
 use borrow.Author.Needs.{needs}
 use Rattle.payouts.proofs.pay_items.Statement.{statement}
 use Rattle.payouts.proofs.pay_items.Tie as tie
-use Rattle.payouts.proofs.pay_items.Reads as reads
-use Rattle.payouts.proofs.pay_items.Lts as lts
-use Rattle.payouts.proofs.pay.Reads as pay-reads
-use Rattle.record.proofs.item_address.Reads as item-address-reads
-use Rattle.record.proofs.item_amount.Reads as item-amount-reads
 
 abbrev Inv-loop : tie.InvT-loop
 Inv-loop img₀ events₀ rec count t sequence caller by-operator i₀ img events i =

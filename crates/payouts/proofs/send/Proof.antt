@@ -5,12 +5,6 @@ use native.Mathlib.Omega.{arith}
 use borrow.Author.Needs.{needs}
 use Rattle.payouts.proofs.send.Statement.{statement}
 use Rattle.payouts.proofs.send.Tie as tie
-use Rattle.payouts.proofs.send.Reads as reads
-use Rattle.payouts.proofs.send.Lts as lts
-use Rattle.amount.proofs.differ.Reads as differ-reads
-use Rattle.amount.proofs.minus.Reads as minus-reads
-use Rattle.token.proofs.balance.Reads as balance-reads
-use Rattle.token.proofs.transfer.Reads as transfer-reads
 
 balance-requires : tie.Need-balance-requires
 balance-requires c κs = search needs

@@ -2,13 +2,6 @@
 use borrow.Author.Needs.{needs}
 use Rattle.payouts.proofs.settle.Statement.{statement}
 use Rattle.payouts.proofs.settle.Tie as tie
-use Rattle.payouts.proofs.settle.Reads as reads
-use Rattle.payouts.proofs.settle.Lts as lts
-use Rattle.events.proofs.put_event.Reads as put-event-reads
-use Rattle.events.proofs.withdrawn.Reads as withdrawn-reads
-use Rattle.payouts.proofs.take_credit.Reads as take-credit-reads
-use Rattle.storage.proofs.record_vault_balance.Reads as record-vault-balance-reads
-use Rattle.token.proofs.balance.Reads as balance-reads
 
 balance-requires : tie.Need-balance-requires
 balance-requires c κs = search needs

@@ -6,14 +6,6 @@ use mathlib.Core.Path.{refl}
 use borrow.Author.Needs.{needs}
 use Rattle.payouts.proofs.withdraw.Statement.{statement}
 use Rattle.payouts.proofs.withdraw.Tie as tie
-use Rattle.payouts.proofs.withdraw.Reads as reads
-use Rattle.payouts.proofs.withdraw.Lts as lts
-use Rattle.payouts.proofs.withdraw_of.Reads as withdraw-of-reads
-use Rattle.record.proofs.amount.Reads as amount-reads
-use Rattle.record.proofs.caller.Reads as caller-reads
-use Rattle.record.proofs.other.Reads as other-reads
-use Rattle.record.proofs.sequence.Reads as sequence-reads
-use Rattle.record.proofs.signers.Reads as signers-reads
 
 caller-requires : tie.Need-caller-requires
 caller-requires c κs = search needs

@@ -7,13 +7,6 @@ use mathlib.Core.Path.{refl}
 use borrow.Author.Needs.{needs}
 use Rattle.payouts.proofs.withdraw_batch.Statement.{statement}
 use Rattle.payouts.proofs.withdraw_batch.Tie as tie
-use Rattle.payouts.proofs.withdraw_batch.Reads as reads
-use Rattle.payouts.proofs.withdraw_batch.Lts as lts
-use Rattle.payouts.proofs.withdraw_batch_of.Reads as withdraw-batch-of-reads
-use Rattle.record.proofs.caller.Reads as caller-reads
-use Rattle.record.proofs.item_count.Reads as item-count-reads
-use Rattle.record.proofs.sequence.Reads as sequence-reads
-use Rattle.record.proofs.signers.Reads as signers-reads
 
 item-count-requires : tie.Need-item-count-requires
 item-count-requires c κs = search needs

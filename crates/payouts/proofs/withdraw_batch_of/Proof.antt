@@ -7,13 +7,6 @@ use mathlib.Core.Path.{refl, sym, _∙_}
 use borrow.Author.Needs.{needs}
 use Rattle.payouts.proofs.withdraw_batch_of.Statement.{statement}
 use Rattle.payouts.proofs.withdraw_batch_of.Tie as tie
-use Rattle.payouts.proofs.withdraw_batch_of.Reads as reads
-use Rattle.payouts.proofs.withdraw_batch_of.Lts as lts
-use Rattle.fields.proofs.get8.Reads as get8-reads
-use Rattle.outcome.proofs.done.Reads as done-reads
-use Rattle.outcome.proofs.refuse.Reads as refuse-reads
-use Rattle.payouts.proofs.batch_checks.Reads as batch-checks-reads
-use Rattle.payouts.proofs.pay_items.Reads as pay-items-reads
 
 batch-checks-requires : tie.Need-batch-checks-requires
 batch-checks-requires c κs = search needs

@@ -7,13 +7,6 @@ use mathlib.Core.Path.{refl}
 use borrow.Author.Needs.{needs}
 use Rattle.payouts.proofs.withdraw_of.Statement.{statement}
 use Rattle.payouts.proofs.withdraw_of.Tie as tie
-use Rattle.payouts.proofs.withdraw_of.Reads as reads
-use Rattle.payouts.proofs.withdraw_of.Lts as lts
-use Rattle.fields.proofs.get8.Reads as get8-reads
-use Rattle.outcome.proofs.done.Reads as done-reads
-use Rattle.outcome.proofs.refuse.Reads as refuse-reads
-use Rattle.payouts.proofs.pay.Reads as pay-reads
-use Rattle.payouts.proofs.withdraw_checks.Reads as withdraw-checks-reads
 
 withdraw-checks-requires : tie.Need-withdraw-checks-requires
 withdraw-checks-requires c κs = search needs

@@ -6,15 +6,6 @@ use mathlib.Core.Path.{refl}
 use borrow.Author.Needs.{needs}
 use Rattle.payouts.proofs.withdraw_token.Statement.{statement}
 use Rattle.payouts.proofs.withdraw_token.Tie as tie
-use Rattle.payouts.proofs.withdraw_token.Reads as reads
-use Rattle.payouts.proofs.withdraw_token.Lts as lts
-use Rattle.payouts.proofs.withdraw_token_of.Reads as withdraw-token-of-reads
-use Rattle.record.proofs.amount.Reads as amount-reads
-use Rattle.record.proofs.caller.Reads as caller-reads
-use Rattle.record.proofs.other.Reads as other-reads
-use Rattle.record.proofs.sequence.Reads as sequence-reads
-use Rattle.record.proofs.signers.Reads as signers-reads
-use Rattle.record.proofs.token.Reads as token-reads
 
 token-requires : tie.Need-token-requires
 token-requires c κs = search needs

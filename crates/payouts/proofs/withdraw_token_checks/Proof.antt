@@ -6,16 +6,6 @@ use native.Mathlib.Omega.{arith}
 use borrow.Author.Needs.{needs}
 use Rattle.payouts.proofs.withdraw_token_checks.Statement.{statement}
 use Rattle.payouts.proofs.withdraw_token_checks.Tie as tie
-use Rattle.payouts.proofs.withdraw_token_checks.Reads as reads
-use Rattle.payouts.proofs.withdraw_token_checks.Lts as lts
-use Rattle.checks.proofs.amount_check.Reads as amount-check-reads
-use Rattle.checks.proofs.cap_check.Reads as cap-check-reads
-use Rattle.checks.proofs.funds_check.Reads as funds-check-reads
-use Rattle.checks.proofs.paused_check.Reads as paused-check-reads
-use Rattle.checks.proofs.shared_gate.Reads as shared-gate-reads
-use Rattle.payouts.proofs.credit_check.Reads as credit-check-reads
-use Rattle.token.proofs.balance.Reads as balance-reads
-use Rattle.token.proofs.presence_check.Reads as presence-check-reads
 
 paused-check-requires : tie.Need-paused-check-requires
 paused-check-requires c κs = search needs

@@ -7,14 +7,6 @@ use native.Mathlib.Omega.{arith}
 use borrow.Author.Needs.{needs}
 use Rattle.payouts.proofs.withdraw_token_of.Statement.{statement}
 use Rattle.payouts.proofs.withdraw_token_of.Tie as tie
-use Rattle.payouts.proofs.withdraw_token_of.Reads as reads
-use Rattle.payouts.proofs.withdraw_token_of.Lts as lts
-use Rattle.fields.proofs.get8.Reads as get8-reads
-use Rattle.outcome.proofs.done.Reads as done-reads
-use Rattle.outcome.proofs.refuse.Reads as refuse-reads
-use Rattle.payouts.proofs.send.Reads as send-reads
-use Rattle.payouts.proofs.settle.Reads as settle-reads
-use Rattle.payouts.proofs.withdraw_token_checks.Reads as withdraw-token-checks-reads
 
 withdraw-token-checks-requires : tie.Need-withdraw-token-checks-requires
 withdraw-token-checks-requires c κs = search needs

@@ -1,8 +1,8 @@
 -- `record::is_view` meets its contract.
 use Rattle.record.specs.Form.{member, isView}
-use Rattle.record.proofs.Arms.{on-keys, on-run}
+use Rattle.record.proofs.Arms.{on-run}
 use native.Mathlib.Omega.{arith}
-use mathlib.Core.List.{[], _∷_}
+use mathlib.Core.List.{[]}
 use mathlib.Core.Bool.{true, false}
 use mathlib.Core.Path.{refl}
 use Rattle.record.proofs.is_view.Statement.{statement}

@@ -7,11 +7,6 @@ use mathlib.Core.Path.{refl}
 use borrow.Author.Needs.{needs}
 use Rattle.settings.proofs.below_holding_check.Statement.{statement}
 use Rattle.settings.proofs.below_holding_check.Tie as tie
-use Rattle.settings.proofs.below_holding_check.Reads as reads
-use Rattle.settings.proofs.below_holding_check.Lts as lts
-use Rattle.amount.proofs.below.Reads as below-reads
-use Rattle.fields.proofs.get8.Reads as get8-reads
-use Rattle.token.proofs.balance.Reads as balance-reads
 
 get8-requires : tie.Need-get8-requires
 get8-requires c κs = search needs

@@ -6,14 +6,6 @@ use native.Mathlib.Omega.{arith}
 use borrow.Author.Needs.{needs}
 use Rattle.settings.proofs.limit_check.Statement.{statement}
 use Rattle.settings.proofs.limit_check.Tie as tie
-use Rattle.settings.proofs.limit_check.Reads as reads
-use Rattle.settings.proofs.limit_check.Lts as lts
-use Rattle.checks.proofs.amount_check.Reads as amount-check-reads
-use Rattle.checks.proofs.initialised_check.Reads as initialised-check-reads
-use Rattle.checks.proofs.paused_check.Reads as paused-check-reads
-use Rattle.checks.proofs.signed_check.Reads as signed-check-reads
-use Rattle.settings.proofs.below_holding_check.Reads as below-holding-check-reads
-use Rattle.settings.proofs.limit_role_check.Reads as limit-role-check-reads
 
 paused-check-requires : tie.Need-paused-check-requires
 paused-check-requires c κs = search needs

@@ -5,16 +5,9 @@ use Rattle.image.specs.Layout.{vaultLimit}
 use borrow.Author.Tests.{lt-ltb, le-ltb}
 use native.Mathlib.Omega.{arith}
 use Prim.Native.Nat.{_<_, _≤_}
-use mathlib.Core.Path.{_≡_, sym, _∙_}
 use borrow.Author.Needs.{needs}
 use Rattle.settings.proofs.limit_role_check.Statement.{statement}
 use Rattle.settings.proofs.limit_role_check.Tie as tie
-use Rattle.settings.proofs.limit_role_check.Reads as reads
-use Rattle.settings.proofs.limit_role_check.Lts as lts
-use Rattle.amount.proofs.below.Reads as below-reads
-use Rattle.amount.proofs.read_amount.Reads as read-amount-reads
-use Rattle.checks.proofs.insider_check.Reads as insider-check-reads
-use Rattle.checks.proofs.owner_check.Reads as owner-check-reads
 
 read-amount-requires : tie.Need-read-amount-requires
 read-amount-requires c κs = search needs

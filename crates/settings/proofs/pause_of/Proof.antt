@@ -5,13 +5,6 @@ use mathlib.Core.Path.{sym, _∙_}
 use borrow.Author.Needs.{needs}
 use Rattle.settings.proofs.pause_of.Statement.{statement}
 use Rattle.settings.proofs.pause_of.Tie as tie
-use Rattle.settings.proofs.pause_of.Reads as reads
-use Rattle.settings.proofs.pause_of.Lts as lts
-use Rattle.events.proofs.paused.Reads as paused-reads
-use Rattle.outcome.proofs.announce.Reads as announce-reads
-use Rattle.outcome.proofs.refuse.Reads as refuse-reads
-use Rattle.settings.proofs.pause_check.Reads as pause-check-reads
-use Rattle.storage.proofs.set_flag.Reads as set-flag-reads
 
 pause-check-requires : tie.Need-pause-check-requires
 pause-check-requires c κs = search needs

@@ -6,11 +6,6 @@ use mathlib.Core.Path.{refl}
 use borrow.Author.Needs.{needs}
 use Rattle.settings.proofs.revoke_operator.Statement.{statement}
 use Rattle.settings.proofs.revoke_operator.Tie as tie
-use Rattle.settings.proofs.revoke_operator.Reads as reads
-use Rattle.settings.proofs.revoke_operator.Lts as lts
-use Rattle.record.proofs.caller.Reads as caller-reads
-use Rattle.record.proofs.signers.Reads as signers-reads
-use Rattle.settings.proofs.revoke_operator_of.Reads as revoke-operator-of-reads
 
 caller-requires : tie.Need-caller-requires
 caller-requires c κs = search needs

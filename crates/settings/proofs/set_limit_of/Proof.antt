@@ -5,14 +5,6 @@ use mathlib.Core.Path.{sym, _∙_}
 use borrow.Author.Needs.{needs}
 use Rattle.settings.proofs.set_limit_of.Statement.{statement}
 use Rattle.settings.proofs.set_limit_of.Tie as tie
-use Rattle.settings.proofs.set_limit_of.Reads as reads
-use Rattle.settings.proofs.set_limit_of.Lts as lts
-use Rattle.amount.proofs.read_amount.Reads as read-amount-reads
-use Rattle.amount.proofs.write_amount.Reads as write-amount-reads
-use Rattle.events.proofs.limit_set.Reads as limit-set-reads
-use Rattle.outcome.proofs.announce.Reads as announce-reads
-use Rattle.outcome.proofs.refuse.Reads as refuse-reads
-use Rattle.settings.proofs.limit_check.Reads as limit-check-reads
 
 limit-check-requires : tie.Need-limit-check-requires
 limit-check-requires c κs = search needs

@@ -5,14 +5,6 @@ use mathlib.Core.Path.{sym, _∙_}
 use borrow.Author.Needs.{needs}
 use Rattle.settings.proofs.set_operator_of.Statement.{statement}
 use Rattle.settings.proofs.set_operator_of.Tie as tie
-use Rattle.settings.proofs.set_operator_of.Reads as reads
-use Rattle.settings.proofs.set_operator_of.Lts as lts
-use Rattle.checks.proofs.owner_gate.Reads as owner-gate-reads
-use Rattle.events.proofs.operator_set.Reads as operator-set-reads
-use Rattle.fields.proofs.put8.Reads as put8-reads
-use Rattle.outcome.proofs.announce.Reads as announce-reads
-use Rattle.outcome.proofs.refuse.Reads as refuse-reads
-use Rattle.storage.proofs.set_flag.Reads as set-flag-reads
 
 owner-gate-requires : tie.Need-owner-gate-requires
 owner-gate-requires c κs = search needs

@@ -5,15 +5,6 @@ use mathlib.Core.Path.{sym, _∙_}
 use borrow.Author.Needs.{needs}
 use Rattle.settings.proofs.set_operator_withdraw_limit_of.Statement.{statement}
 use Rattle.settings.proofs.set_operator_withdraw_limit_of.Tie as tie
-use Rattle.settings.proofs.set_operator_withdraw_limit_of.Reads as reads
-use Rattle.settings.proofs.set_operator_withdraw_limit_of.Lts as lts
-use Rattle.amount.proofs.read_amount.Reads as read-amount-reads
-use Rattle.amount.proofs.write_amount.Reads as write-amount-reads
-use Rattle.events.proofs.operator_withdraw_limit_set.Reads as operator-withdraw-limit-set-reads
-use Rattle.outcome.proofs.announce.Reads as announce-reads
-use Rattle.outcome.proofs.refuse.Reads as refuse-reads
-use Rattle.settings.proofs.operator_limit_check.Reads as operator-limit-check-reads
-use Rattle.storage.proofs.set_flag.Reads as set-flag-reads
 
 operator-limit-check-requires : tie.Need-operator-limit-check-requires
 operator-limit-check-requires c κs = search needs

@@ -7,12 +7,6 @@ use mathlib.Core.Path.{sym, _∙_}
 use borrow.Author.Needs.{needs}
 use Rattle.settings.proofs.set_token_max_limit_of.Statement.{statement}
 use Rattle.settings.proofs.set_token_max_limit_of.Tie as tie
-use Rattle.settings.proofs.set_token_max_limit_of.Reads as reads
-use Rattle.settings.proofs.set_token_max_limit_of.Lts as lts
-use Rattle.outcome.proofs.done.Reads as done-reads
-use Rattle.outcome.proofs.refuse.Reads as refuse-reads
-use Rattle.settings.proofs.token_max_limit_check.Reads as token-max-limit-check-reads
-use Rattle.storage.proofs.set_token_max_limit.Reads as set-token-max-limit-reads
 
 token-max-limit-check-requires : tie.Need-token-max-limit-check-requires
 token-max-limit-check-requires c κs = search needs

@@ -5,10 +5,6 @@ use native.Mathlib.Omega.{arith}
 use borrow.Author.Needs.{needs}
 use Rattle.settings.proofs.unpause_check.Statement.{statement}
 use Rattle.settings.proofs.unpause_check.Tie as tie
-use Rattle.settings.proofs.unpause_check.Reads as reads
-use Rattle.settings.proofs.unpause_check.Lts as lts
-use Rattle.checks.proofs.owner_gate.Reads as owner-gate-reads
-use Rattle.settings.proofs.not_paused_check.Reads as not-paused-check-reads
 
 owner-gate-requires : tie.Need-owner-gate-requires
 owner-gate-requires c κs = search needs

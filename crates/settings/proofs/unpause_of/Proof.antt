@@ -5,13 +5,6 @@ use mathlib.Core.Path.{sym, _∙_}
 use borrow.Author.Needs.{needs}
 use Rattle.settings.proofs.unpause_of.Statement.{statement}
 use Rattle.settings.proofs.unpause_of.Tie as tie
-use Rattle.settings.proofs.unpause_of.Reads as reads
-use Rattle.settings.proofs.unpause_of.Lts as lts
-use Rattle.events.proofs.unpaused.Reads as unpaused-reads
-use Rattle.outcome.proofs.announce.Reads as announce-reads
-use Rattle.outcome.proofs.refuse.Reads as refuse-reads
-use Rattle.settings.proofs.unpause_check.Reads as unpause-check-reads
-use Rattle.storage.proofs.clear_flag.Reads as clear-flag-reads
 
 unpause-check-requires : tie.Need-unpause-check-requires
 unpause-check-requires c κs = search needs

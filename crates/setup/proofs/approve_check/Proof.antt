@@ -7,10 +7,6 @@ use mathlib.Core.Path.{refl, sym, _∙_}
 use borrow.Author.Needs.{needs}
 use Rattle.setup.proofs.approve_check.Statement.{statement}
 use Rattle.setup.proofs.approve_check.Tie as tie
-use Rattle.setup.proofs.approve_check.Reads as reads
-use Rattle.setup.proofs.approve_check.Lts as lts
-use Rattle.checks.proofs.owner_gate.Reads as owner-gate-reads
-use Rattle.setup.proofs.valid_token_check.Reads as valid-token-check-reads
 
 owner-gate-requires : tie.Need-owner-gate-requires
 owner-gate-requires c κs = search needs

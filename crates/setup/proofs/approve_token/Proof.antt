@@ -6,13 +6,6 @@ use mathlib.Core.Path.{refl}
 use borrow.Author.Needs.{needs}
 use Rattle.setup.proofs.approve_token.Statement.{statement}
 use Rattle.setup.proofs.approve_token.Tie as tie
-use Rattle.setup.proofs.approve_token.Reads as reads
-use Rattle.setup.proofs.approve_token.Lts as lts
-use Rattle.record.proofs.caller.Reads as caller-reads
-use Rattle.record.proofs.flag.Reads as flag-reads
-use Rattle.record.proofs.signers.Reads as signers-reads
-use Rattle.record.proofs.token.Reads as token-reads
-use Rattle.setup.proofs.approve_token_of.Reads as approve-token-of-reads
 
 caller-requires : tie.Need-caller-requires
 caller-requires c κs = search needs

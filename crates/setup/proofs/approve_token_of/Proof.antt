@@ -6,14 +6,6 @@ use mathlib.Core.Path.{sym, _∙_}
 use borrow.Author.Needs.{needs}
 use Rattle.setup.proofs.approve_token_of.Statement.{statement}
 use Rattle.setup.proofs.approve_token_of.Tie as tie
-use Rattle.setup.proofs.approve_token_of.Reads as reads
-use Rattle.setup.proofs.approve_token_of.Lts as lts
-use Rattle.events.proofs.token_approval_changed.Reads as token-approval-changed-reads
-use Rattle.fields.proofs.put64.Reads as put64-reads
-use Rattle.outcome.proofs.announce.Reads as announce-reads
-use Rattle.outcome.proofs.refuse.Reads as refuse-reads
-use Rattle.setup.proofs.approve_check.Reads as approve-check-reads
-use Rattle.setup.proofs.approved_set.Reads as approved-set-reads
 
 approve-check-requires : tie.Need-approve-check-requires
 approve-check-requires c κs = search needs

@@ -3,11 +3,6 @@ use borrow.Author.Tests.{eq-eqb, ne-eqb}
 use borrow.Author.Needs.{needs}
 use Rattle.setup.proofs.approved_set.Statement.{statement}
 use Rattle.setup.proofs.approved_set.Tie as tie
-use Rattle.setup.proofs.approved_set.Reads as reads
-use Rattle.setup.proofs.approved_set.Lts as lts
-use Rattle.fields.proofs.get64.Reads as get64-reads
-use Rattle.storage.proofs.with_bit.Reads as with-bit-reads
-use Rattle.storage.proofs.without_bit.Reads as without-bit-reads
 
 get64-requires : tie.Need-get64-requires
 get64-requires c κs = search needs

@@ -6,13 +6,6 @@ use mathlib.Core.Path.{refl}
 use borrow.Author.Needs.{needs}
 use Rattle.setup.proofs.initialize.Statement.{statement}
 use Rattle.setup.proofs.initialize.Tie as tie
-use Rattle.setup.proofs.initialize.Reads as reads
-use Rattle.setup.proofs.initialize.Lts as lts
-use Rattle.record.proofs.amount.Reads as amount-reads
-use Rattle.record.proofs.caller.Reads as caller-reads
-use Rattle.record.proofs.signers.Reads as signers-reads
-use Rattle.record.proofs.token.Reads as token-reads
-use Rattle.setup.proofs.initialize_of.Reads as initialize-of-reads
 
 caller-requires : tie.Need-caller-requires
 caller-requires c κs = search needs

@@ -5,12 +5,6 @@ use native.Mathlib.Omega.{arith}
 use borrow.Author.Needs.{needs}
 use Rattle.setup.proofs.initialize_check.Statement.{statement}
 use Rattle.setup.proofs.initialize_check.Tie as tie
-use Rattle.setup.proofs.initialize_check.Reads as reads
-use Rattle.setup.proofs.initialize_check.Lts as lts
-use Rattle.checks.proofs.amount_check.Reads as amount-check-reads
-use Rattle.checks.proofs.signed_check.Reads as signed-check-reads
-use Rattle.setup.proofs.done_before_check.Reads as done-before-check-reads
-use Rattle.setup.proofs.valid_token_check.Reads as valid-token-check-reads
 
 signed-check-requires : tie.Need-signed-check-requires
 signed-check-requires c κs = search needs

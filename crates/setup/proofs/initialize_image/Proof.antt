@@ -3,14 +3,6 @@ use Rattle.setup.specs.Setup.{initializeImage}
 use borrow.Author.Needs.{needs}
 use Rattle.setup.proofs.initialize_image.Statement.{statement}
 use Rattle.setup.proofs.initialize_image.Tie as tie
-use Rattle.setup.proofs.initialize_image.Reads as reads
-use Rattle.setup.proofs.initialize_image.Lts as lts
-use Rattle.amount.proofs.write_amount.Reads as write-amount-reads
-use Rattle.fields.proofs.get64.Reads as get64-reads
-use Rattle.fields.proofs.put64.Reads as put64-reads
-use Rattle.fields.proofs.put8.Reads as put8-reads
-use Rattle.storage.proofs.set_flag.Reads as set-flag-reads
-use Rattle.storage.proofs.with_bit.Reads as with-bit-reads
 
 get64-requires : tie.Need-get64-requires
 get64-requires c κs = search needs

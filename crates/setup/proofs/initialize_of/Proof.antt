@@ -5,13 +5,6 @@ use mathlib.Core.Path.{sym, _∙_}
 use borrow.Author.Needs.{needs}
 use Rattle.setup.proofs.initialize_of.Statement.{statement}
 use Rattle.setup.proofs.initialize_of.Tie as tie
-use Rattle.setup.proofs.initialize_of.Reads as reads
-use Rattle.setup.proofs.initialize_of.Lts as lts
-use Rattle.events.proofs.initialized.Reads as initialized-reads
-use Rattle.outcome.proofs.announce.Reads as announce-reads
-use Rattle.outcome.proofs.refuse.Reads as refuse-reads
-use Rattle.setup.proofs.initialize_check.Reads as initialize-check-reads
-use Rattle.setup.proofs.initialize_image.Reads as initialize-image-reads
 
 initialize-check-requires : tie.Need-initialize-check-requires
 initialize-check-requires c κs = search needs

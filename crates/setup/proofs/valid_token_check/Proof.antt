@@ -5,10 +5,6 @@ use native.Mathlib.Omega.{arith}
 use borrow.Author.Needs.{needs}
 use Rattle.setup.proofs.valid_token_check.Statement.{statement}
 use Rattle.setup.proofs.valid_token_check.Tie as tie
-use Rattle.setup.proofs.valid_token_check.Reads as reads
-use Rattle.setup.proofs.valid_token_check.Lts as lts
-use Rattle.setup.proofs.zero_token_check.Reads as zero-token-check-reads
-use Rattle.token.proofs.presence_check.Reads as presence-check-reads
 
 zero-token-check-requires : tie.Need-zero-token-check-requires
 zero-token-check-requires c κs = search needs

@@ -3,11 +3,8 @@ use Rattle.setup.specs.Setup.{zeroTokenNumber}
 use Rattle.fields.specs.Rules.{stop-at}
 use native.Mathlib.Omega.{arith}
 use mathlib.Core.Path.{refl}
-use borrow.Author.Needs.{needs}
 use Rattle.setup.proofs.zero_token_check.Statement.{statement}
 use Rattle.setup.proofs.zero_token_check.Tie as tie
-use Rattle.setup.proofs.zero_token_check.Reads as reads
-use Rattle.setup.proofs.zero_token_check.Lts as lts
 
 returns : tie.Need-returns
 unfolding zeroTokenNumber

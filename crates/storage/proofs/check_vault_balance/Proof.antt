@@ -6,11 +6,6 @@ use mathlib.Core.Path.{refl}
 use borrow.Author.Needs.{needs}
 use Rattle.storage.proofs.check_vault_balance.Statement.{statement}
 use Rattle.storage.proofs.check_vault_balance.Tie as tie
-use Rattle.storage.proofs.check_vault_balance.Reads as reads
-use Rattle.storage.proofs.check_vault_balance.Lts as lts
-use Rattle.amount.proofs.differ.Reads as differ-reads
-use Rattle.amount.proofs.read_amount.Reads as read-amount-reads
-use Rattle.fields.proofs.get32.Reads as get32-reads
 
 sub-at : tie.Need-sub-at
 sub-at c = search needs

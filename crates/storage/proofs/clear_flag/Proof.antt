@@ -1,13 +1,7 @@
 -- `storage::clear_flag` meets its contract.
-use native.Mathlib.Omega.{arith}
 use borrow.Author.Needs.{needs}
 use Rattle.storage.proofs.clear_flag.Statement.{statement}
 use Rattle.storage.proofs.clear_flag.Tie as tie
-use Rattle.storage.proofs.clear_flag.Reads as reads
-use Rattle.storage.proofs.clear_flag.Lts as lts
-use Rattle.fields.proofs.get16.Reads as get16-reads
-use Rattle.fields.proofs.put16.Reads as put16-reads
-use Rattle.storage.proofs.without_bit.Reads as without-bit-reads
 
 get16-requires : tie.Need-get16-requires
 get16-requires c κs = search needs

@@ -9,10 +9,6 @@ use mathlib.Core.Path.{_≡_, sym, ap, _∙_}
 use borrow.Author.Needs.{needs}
 use Rattle.storage.proofs.is_tracked.Statement.{statement}
 use Rattle.storage.proofs.is_tracked.Tie as tie
-use Rattle.storage.proofs.is_tracked.Reads as reads
-use Rattle.storage.proofs.is_tracked.Lts as lts
-use Rattle.fields.proofs.get16.Reads as get16-reads
-use Rattle.fields.proofs.get64.Reads as get64-reads
 
 abbrev Inv-loop : tie.InvT-loop
 Inv-loop img k n i₀ i = (i ≤ n) × (false ≡ tracked img i k)

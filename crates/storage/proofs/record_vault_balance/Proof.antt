@@ -3,10 +3,6 @@ use Rattle.storage.specs.Setters.{recordBalance}
 use borrow.Author.Needs.{needs}
 use Rattle.storage.proofs.record_vault_balance.Statement.{statement}
 use Rattle.storage.proofs.record_vault_balance.Tie as tie
-use Rattle.storage.proofs.record_vault_balance.Reads as reads
-use Rattle.storage.proofs.record_vault_balance.Lts as lts
-use Rattle.amount.proofs.write_amount.Reads as write-amount-reads
-use Rattle.fields.proofs.put32.Reads as put32-reads
 
 sub-at : tie.Need-sub-at
 sub-at c = search needs

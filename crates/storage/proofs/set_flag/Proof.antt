@@ -4,11 +4,6 @@ use native.Mathlib.Omega.{arith}
 use borrow.Author.Needs.{needs}
 use Rattle.storage.proofs.set_flag.Statement.{statement}
 use Rattle.storage.proofs.set_flag.Tie as tie
-use Rattle.storage.proofs.set_flag.Reads as reads
-use Rattle.storage.proofs.set_flag.Lts as lts
-use Rattle.fields.proofs.get16.Reads as get16-reads
-use Rattle.fields.proofs.put16.Reads as put16-reads
-use Rattle.storage.proofs.with_bit.Reads as with-bit-reads
 
 get16-requires : tie.Need-get16-requires
 get16-requires c κs = search needs

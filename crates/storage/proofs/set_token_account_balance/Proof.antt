@@ -5,10 +5,6 @@ use Rattle.storage.specs.Setters.{setCredit}
 use borrow.Author.Needs.{needs}
 use Rattle.storage.proofs.set_token_account_balance.Statement.{statement}
 use Rattle.storage.proofs.set_token_account_balance.Tie as tie
-use Rattle.storage.proofs.set_token_account_balance.Reads as reads
-use Rattle.storage.proofs.set_token_account_balance.Lts as lts
-use Rattle.amount.proofs.write_amount.Reads as write-amount-reads
-use Rattle.storage.proofs.track_vault_key.Reads as track-vault-key-reads
 
 sub-write-amount : tie.Need-sub-write-amount
 sub-write-amount c = search needs

@@ -5,13 +5,6 @@ use Rattle.storage.specs.Setters.{setCap}
 use borrow.Author.Needs.{needs}
 use Rattle.storage.proofs.set_token_max_limit.Statement.{statement}
 use Rattle.storage.proofs.set_token_max_limit.Tie as tie
-use Rattle.storage.proofs.set_token_max_limit.Reads as reads
-use Rattle.storage.proofs.set_token_max_limit.Lts as lts
-use Rattle.amount.proofs.write_amount.Reads as write-amount-reads
-use Rattle.fields.proofs.get64.Reads as get64-reads
-use Rattle.fields.proofs.put64.Reads as put64-reads
-use Rattle.storage.proofs.track_vault_key.Reads as track-vault-key-reads
-use Rattle.storage.proofs.with_bit.Reads as with-bit-reads
 
 get64-requires : tie.Need-get64-requires
 get64-requires c κs = search needs

@@ -1,19 +1,10 @@
 -- `storage::track_vault_key` meets its contract.
-use Rattle.image.specs.Layout.{trackedCount}
 use Rattle.storage.specs.Kept.{tracked-already, tracked-anew, key-room}
-use Prim.Native.Nat.{_<_}
 use native.Mathlib.Omega.{arith}
-use mathlib.Core.Bool.{false}
-use mathlib.Core.Path.{_≡_, sym, _∙_}
+use mathlib.Core.Path.{sym, _∙_}
 use borrow.Author.Needs.{needs}
 use Rattle.storage.proofs.track_vault_key.Statement.{statement}
 use Rattle.storage.proofs.track_vault_key.Tie as tie
-use Rattle.storage.proofs.track_vault_key.Reads as reads
-use Rattle.storage.proofs.track_vault_key.Lts as lts
-use Rattle.fields.proofs.get64.Reads as get64-reads
-use Rattle.fields.proofs.put16.Reads as put16-reads
-use Rattle.fields.proofs.put64.Reads as put64-reads
-use Rattle.storage.proofs.is_tracked.Reads as is-tracked-reads
 
 is-tracked-requires : tie.Need-is-tracked-requires
 is-tracked-requires c κs = search needs

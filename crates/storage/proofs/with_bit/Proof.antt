@@ -2,13 +2,11 @@
 use Rattle.storage.specs.Bits.{with-on, with-off, shifted-one, set-fits}
 use Rattle.image.specs.Layout.{bit}
 use native.Mathlib.Omega.{arith}
-use Prim.Native.Nat.{ℕ, _+_, _<_, _^_}
+use Prim.Native.Nat.{ℕ, _+_}
 use mathlib.Core.Path.{_≡_, sym, ap, _∙_}
 use borrow.Author.Needs.{needs}
 use Rattle.storage.proofs.with_bit.Statement.{statement}
 use Rattle.storage.proofs.with_bit.Tie as tie
-use Rattle.storage.proofs.with_bit.Reads as reads
-use Rattle.storage.proofs.with_bit.Lts as lts
 
 shr-if1 : tie.Need-shr-if1
 shr-if1 c = search needs

@@ -7,8 +7,6 @@ use mathlib.Core.Path.{_≡_, sym, ap, _∙_}
 use borrow.Author.Needs.{needs}
 use Rattle.storage.proofs.without_bit.Statement.{statement}
 use Rattle.storage.proofs.without_bit.Tie as tie
-use Rattle.storage.proofs.without_bit.Reads as reads
-use Rattle.storage.proofs.without_bit.Lts as lts
 
 shr-if1 : tie.Need-shr-if1
 shr-if1 c = search needs

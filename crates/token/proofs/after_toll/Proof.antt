@@ -5,10 +5,6 @@ use native.Mathlib.Omega.{arith}
 use borrow.Author.Needs.{needs}
 use Rattle.token.proofs.after_toll.Statement.{statement}
 use Rattle.token.proofs.after_toll.Tie as tie
-use Rattle.token.proofs.after_toll.Reads as reads
-use Rattle.token.proofs.after_toll.Lts as lts
-use Rattle.amount.proofs.less_toll.Reads as less-toll-reads
-use Rattle.amount.proofs.read_amount.Reads as read-amount-reads
 
 sub-read-amount : tie.Need-sub-read-amount
 sub-read-amount c = search needs

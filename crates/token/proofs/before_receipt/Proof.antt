@@ -5,14 +5,10 @@ use Rattle.amount.specs.Biased.{biased}
 use Rattle.image.specs.Layout.{holding, slot}
 use native.Mathlib.Omega.{arith}
 use Prim.Native.Nat.{ℕ}
-use mathlib.Core.Path.{_≡_, ap, sym, _∙_}
+use mathlib.Core.Path.{ap, sym, _∙_}
 use borrow.Author.Needs.{needs}
 use Rattle.token.proofs.before_receipt.Statement.{statement}
 use Rattle.token.proofs.before_receipt.Tie as tie
-use Rattle.token.proofs.before_receipt.Reads as reads
-use Rattle.token.proofs.before_receipt.Lts as lts
-use Rattle.amount.proofs.minus.Reads as minus-reads
-use Rattle.token.proofs.balance.Reads as balance-reads
 
 balance-requires : tie.Need-balance-requires
 balance-requires c κs = search needs

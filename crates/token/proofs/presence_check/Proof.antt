@@ -6,9 +6,6 @@ use mathlib.Core.Path.{refl}
 use borrow.Author.Needs.{needs}
 use Rattle.token.proofs.presence_check.Statement.{statement}
 use Rattle.token.proofs.presence_check.Tie as tie
-use Rattle.token.proofs.presence_check.Reads as reads
-use Rattle.token.proofs.presence_check.Lts as lts
-use Rattle.fields.proofs.get64.Reads as get64-reads
 
 returns : tie.Need-returns
 unfolding absentNumber

@@ -3,18 +3,10 @@ use Rattle.token.proofs.Steps.{debit-is, transfer-is, gain-fits}
 use Rattle.token.specs.Laws.{transfer-free, transfer-failed, transfer-done}
 use Rattle.amount.specs.Biased.{biased}
 use native.Mathlib.Omega.{arith}
-use mathlib.Core.Path.{_≡_, sym, _∙_}
+use mathlib.Core.Path.{sym, _∙_}
 use borrow.Author.Needs.{needs}
 use Rattle.token.proofs.transfer.Statement.{statement}
 use Rattle.token.proofs.transfer.Tie as tie
-use Rattle.token.proofs.transfer.Reads as reads
-use Rattle.token.proofs.transfer.Lts as lts
-use Rattle.amount.proofs.minus.Reads as minus-reads
-use Rattle.amount.proofs.plus.Reads as plus-reads
-use Rattle.token.proofs.after_toll.Reads as after-toll-reads
-use Rattle.token.proofs.balance.Reads as balance-reads
-use Rattle.token.proofs.set_balance.Reads as set-balance-reads
-use Rattle.token.proofs.transfer_check.Reads as transfer-check-reads
 
 transfer-check-requires : tie.Need-transfer-check-requires
 transfer-check-requires c κs = search needs

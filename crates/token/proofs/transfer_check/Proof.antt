@@ -6,14 +6,6 @@ use mathlib.Core.Path.{refl}
 use borrow.Author.Needs.{needs}
 use Rattle.token.proofs.transfer_check.Statement.{statement}
 use Rattle.token.proofs.transfer_check.Tie as tie
-use Rattle.token.proofs.transfer_check.Reads as reads
-use Rattle.token.proofs.transfer_check.Lts as lts
-use Rattle.amount.proofs.below.Reads as below-reads
-use Rattle.amount.proofs.passes.Reads as passes-reads
-use Rattle.fields.proofs.get64.Reads as get64-reads
-use Rattle.token.proofs.after_toll.Reads as after-toll-reads
-use Rattle.token.proofs.balance.Reads as balance-reads
-use Rattle.token.proofs.before_receipt.Reads as before-receipt-reads
 
 returns : tie.Need-returns
 unfolding transferNumber received

@@ -4,10 +4,6 @@ use native.Mathlib.Omega.{arith}
 use borrow.Author.Needs.{needs}
 use Rattle.token.proofs.vault_balance.Statement.{statement}
 use Rattle.token.proofs.vault_balance.Tie as tie
-use Rattle.token.proofs.vault_balance.Reads as reads
-use Rattle.token.proofs.vault_balance.Lts as lts
-use Rattle.fields.proofs.get8.Reads as get8-reads
-use Rattle.token.proofs.balance.Reads as balance-reads
 
 get8-requires : tie.Need-get8-requires
 get8-requires c κs = search needs

@@ -6,11 +6,6 @@ use mathlib.Core.Path.{sym, _∙_}
 use borrow.Author.Needs.{needs}
 use Rattle.token_test.proofs.moved.Statement.{statement}
 use Rattle.token_test.proofs.moved.Tie as tie
-use Rattle.token_test.proofs.moved.Reads as reads
-use Rattle.token_test.proofs.moved.Lts as lts
-use Rattle.amount.proofs.from_u64.Reads as from-u64-reads
-use Rattle.image.proofs.good_image.Reads as good-image-reads
-use Rattle.token.proofs.transfer.Reads as transfer-reads
 
 -- src/main.rt:27:9
 good-image-requires : tie.Need-good-image-requires

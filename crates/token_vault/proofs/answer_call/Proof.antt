@@ -11,17 +11,6 @@ use mathlib.Core.Path.{_≡_, refl, sym, _∙_}
 use borrow.Author.Needs.{needs}
 use Rattle.token_vault.proofs.answer_call.Statement.{statement}
 use Rattle.token_vault.proofs.answer_call.Tie as tie
-use Rattle.token_vault.proofs.answer_call.Reads as reads
-use Rattle.token_vault.proofs.answer_call.Lts as lts
-use Rattle.events.proofs.buffer_check.Reads as buffer-check-reads
-use Rattle.image.proofs.good_image.Reads as good-image-reads
-use Rattle.journal.proofs.good_journal.Reads as good-journal-reads
-use Rattle.record.proofs.form_check.Reads as form-check-reads
-use Rattle.record.proofs.is_view.Reads as is-view-reads
-use Rattle.record.proofs.operation.Reads as operation-reads
-use Rattle.token_vault.proofs.refusal.Reads as refusal-reads
-use Rattle.token_vault.proofs.run_operation.Reads as run-operation-reads
-use Rattle.token_vault.proofs.run_view.Reads as run-view-reads
 
 good-image-requires : tie.Need-good-image-requires
 good-image-requires c κs = search needs

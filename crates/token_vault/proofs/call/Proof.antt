@@ -4,10 +4,6 @@ use mathlib.Core.Path.{ap, _∙_}
 use borrow.Author.Needs.{needs}
 use Rattle.token_vault.proofs.call.Statement.{statement}
 use Rattle.token_vault.proofs.call.Tie as tie
-use Rattle.token_vault.proofs.call.Reads as reads
-use Rattle.token_vault.proofs.call.Lts as lts
-use Rattle.token_vault.proofs.answer_call.Reads as answer-call-reads
-use Rattle.token_vault.proofs.write_value.Reads as write-value-reads
 
 answer-call-requires : tie.Need-answer-call-requires
 answer-call-requires c κs = search needs

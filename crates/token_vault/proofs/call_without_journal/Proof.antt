@@ -4,9 +4,6 @@ use Rattle.token_vault.specs.Public.{closedJournal}
 use borrow.Author.Needs.{needs}
 use Rattle.token_vault.proofs.call_without_journal.Statement.{statement}
 use Rattle.token_vault.proofs.call_without_journal.Tie as tie
-use Rattle.token_vault.proofs.call_without_journal.Reads as reads
-use Rattle.token_vault.proofs.call_without_journal.Lts as lts
-use Rattle.token_vault.proofs.call.Reads as call-reads
 
 slice-aggregate-call : tie.Need-slice-aggregate-call
 slice-aggregate-call c = search needs

@@ -6,11 +6,6 @@ use mathlib.Core.Path.{sym, _∙_}
 use borrow.Author.Needs.{needs}
 use Rattle.token_vault.proofs.keep.Statement.{statement}
 use Rattle.token_vault.proofs.keep.Tie as tie
-use Rattle.token_vault.proofs.keep.Reads as reads
-use Rattle.token_vault.proofs.keep.Lts as lts
-use Rattle.fields.proofs.copy_bytes.Reads as copy-bytes-reads
-use Rattle.journal.proofs.enter.Reads as enter-reads
-use Rattle.journal.proofs.is_open.Reads as is-open-reads
 
 is-open-requires : tie.Need-is-open-requires
 is-open-requires c κs = search needs

@@ -3,22 +3,10 @@ use Rattle.token_vault.proofs.Dispatched.{no-view}
 use Rattle.token_vault.specs.Vault.{outcomeOf}
 use Rattle.outcome.specs.Outcome.{formed-as}
 use Rattle.record.specs.Form.{isView}
-use borrow.Author.Tests.{ne-eqb}
-use mathlib.Core.Bool.{true}
-use mathlib.Core.Path.{refl, sym, ap, _∙_}
-use native.Mathlib.Omega.{arith}
+use mathlib.Core.Path.{sym, ap, _∙_}
 use borrow.Author.Needs.{needs}
 use Rattle.token_vault.proofs.look.Statement.{statement}
 use Rattle.token_vault.proofs.look.Tie as tie
-use Rattle.token_vault.proofs.look.Reads as reads
-use Rattle.token_vault.proofs.look.Lts as lts
-use Rattle.outcome.proofs.refuse.Reads as refuse-reads
-use Rattle.record.proofs.operation.Reads as operation-reads
-use Rattle.views.proofs.balance.Reads as balance-reads
-use Rattle.views.proofs.effective_withdraw_limit.Reads as effective-withdraw-limit-reads
-use Rattle.views.proofs.get_token_account_balance.Reads as get-token-account-balance-reads
-use Rattle.views.proofs.is_token_approved.Reads as is-token-approved-reads
-use Rattle.views.proofs.is_token_compliant.Reads as is-token-compliant-reads
 
 operation-requires : tie.Need-operation-requires
 operation-requires c κs = search needs

@@ -9,35 +9,6 @@ use native.Mathlib.Omega.{arith}
 use borrow.Author.Needs.{needs}
 use Rattle.token_vault.proofs.operate.Statement.{statement}
 use Rattle.token_vault.proofs.operate.Tie as tie
-use Rattle.token_vault.proofs.operate.Reads as reads
-use Rattle.token_vault.proofs.operate.Lts as lts
-use Rattle.batch_deposits.proofs.batch_deposit.Reads as batch-deposit-reads
-use Rattle.deposits.proofs.deposit.Reads as deposit-reads
-use Rattle.deposits.proofs.deposit_token.Reads as deposit-token-reads
-use Rattle.deposits.proofs.deposit_with_failure_report.Reads as deposit-with-failure-report-reads
-use Rattle.deposits.proofs.deposit_with_fee.Reads as deposit-with-fee-reads
-use Rattle.handover.proofs.accept_owner.Reads as accept-owner-reads
-use Rattle.handover.proofs.propose_owner.Reads as propose-owner-reads
-use Rattle.handover.proofs.set_owner_proposal_ttl.Reads as set-owner-proposal-ttl-reads
-use Rattle.migration.proofs.cancel_emergency_migration.Reads as cancel-emergency-migration-reads
-use Rattle.migration.proofs.execute_emergency_migration.Reads as execute-emergency-migration-reads
-use Rattle.migration.proofs.initiate_emergency_migration.Reads as initiate-emergency-migration-reads
-use Rattle.moves.proofs.freeze.Reads as freeze-reads
-use Rattle.moves.proofs.outside_move.Reads as outside-move-reads
-use Rattle.outcome.proofs.refuse.Reads as refuse-reads
-use Rattle.payouts.proofs.withdraw.Reads as withdraw-reads
-use Rattle.payouts.proofs.withdraw_batch.Reads as withdraw-batch-reads
-use Rattle.payouts.proofs.withdraw_token.Reads as withdraw-token-reads
-use Rattle.record.proofs.operation.Reads as operation-reads
-use Rattle.settings.proofs.pause.Reads as pause-reads
-use Rattle.settings.proofs.revoke_operator.Reads as revoke-operator-reads
-use Rattle.settings.proofs.set_limit.Reads as set-limit-reads
-use Rattle.settings.proofs.set_operator.Reads as set-operator-reads
-use Rattle.settings.proofs.set_operator_withdraw_limit.Reads as set-operator-withdraw-limit-reads
-use Rattle.settings.proofs.set_token_max_limit.Reads as set-token-max-limit-reads
-use Rattle.settings.proofs.unpause.Reads as unpause-reads
-use Rattle.setup.proofs.approve_token.Reads as approve-token-reads
-use Rattle.setup.proofs.initialize.Reads as initialize-reads
 
 operation-requires : tie.Need-operation-requires
 operation-requires c κs = search needs

@@ -7,11 +7,6 @@ use mathlib.Core.Path.{sym, _∙_}
 use borrow.Author.Needs.{needs}
 use Rattle.token_vault.proofs.rollback.Statement.{statement}
 use Rattle.token_vault.proofs.rollback.Tie as tie
-use Rattle.token_vault.proofs.rollback.Reads as reads
-use Rattle.token_vault.proofs.rollback.Lts as lts
-use Rattle.image.proofs.good_image.Reads as good-image-reads
-use Rattle.journal.proofs.good_journal.Reads as good-journal-reads
-use Rattle.journal.proofs.rollback.Reads as rollback-reads
 
 good-image-requires : tie.Need-good-image-requires
 good-image-requires c κs = search needs

@@ -4,18 +4,10 @@ use Rattle.token_vault.specs.Vault.{op}
 use Rattle.journal.proofs.Dispatch.{operated-refused}
 use Rattle.journal.specs.Step.{vault, blank}
 use Rattle.image.specs.Layout.{cells}
-use native.Mathlib.Omega.{arith}
-use mathlib.Core.Path.{refl, sym, _∙_}
+use mathlib.Core.Path.{sym, _∙_}
 use borrow.Author.Needs.{needs}
 use Rattle.token_vault.proofs.run_operation.Statement.{statement}
 use Rattle.token_vault.proofs.run_operation.Tie as tie
-use Rattle.token_vault.proofs.run_operation.Reads as reads
-use Rattle.token_vault.proofs.run_operation.Lts as lts
-use Rattle.events.proofs.clear_events.Reads as clear-events-reads
-use Rattle.fields.proofs.copy_bytes.Reads as copy-bytes-reads
-use Rattle.token_vault.proofs.keep.Reads as keep-reads
-use Rattle.token_vault.proofs.refusal.Reads as refusal-reads
-use Rattle.token_vault.proofs.try_operation.Reads as try-operation-reads
 
 slice-aggregate-copy-bytes : tie.Need-slice-aggregate-copy-bytes
 slice-aggregate-copy-bytes c = search needs

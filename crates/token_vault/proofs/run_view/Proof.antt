@@ -4,11 +4,6 @@ use Rattle.token_vault.proofs.Owed.{form-zero}
 use borrow.Author.Needs.{needs}
 use Rattle.token_vault.proofs.run_view.Statement.{statement}
 use Rattle.token_vault.proofs.run_view.Tie as tie
-use Rattle.token_vault.proofs.run_view.Reads as reads
-use Rattle.token_vault.proofs.run_view.Lts as lts
-use Rattle.events.proofs.clear_events.Reads as clear-events-reads
-use Rattle.token_vault.proofs.look.Reads as look-reads
-use Rattle.token_vault.proofs.refusal.Reads as refusal-reads
 
 clear-events-requires : tie.Need-clear-events-requires
 clear-events-requires c κs = search needs

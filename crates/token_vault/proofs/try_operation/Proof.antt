@@ -5,11 +5,6 @@ use mathlib.Core.Path.{refl}
 use borrow.Author.Needs.{needs}
 use Rattle.token_vault.proofs.try_operation.Statement.{statement}
 use Rattle.token_vault.proofs.try_operation.Tie as tie
-use Rattle.token_vault.proofs.try_operation.Reads as reads
-use Rattle.token_vault.proofs.try_operation.Lts as lts
-use Rattle.events.proofs.clear_events.Reads as clear-events-reads
-use Rattle.token_vault.proofs.operate.Reads as operate-reads
-use Rattle.token_vault.proofs.refusal.Reads as refusal-reads
 
 clear-events-requires : tie.Need-clear-events-requires
 clear-events-requires c κs = search needs

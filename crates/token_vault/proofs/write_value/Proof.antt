@@ -4,9 +4,6 @@ use mathlib.Core.Path.{_∙_}
 use borrow.Author.Needs.{needs}
 use Rattle.token_vault.proofs.write_value.Statement.{statement}
 use Rattle.token_vault.proofs.write_value.Tie as tie
-use Rattle.token_vault.proofs.write_value.Reads as reads
-use Rattle.token_vault.proofs.write_value.Lts as lts
-use Rattle.amount.proofs.write_amount.Reads as write-amount-reads
 
 slice-aggregate-write-amount : tie.Need-slice-aggregate-write-amount
 slice-aggregate-write-amount c = search needs

@@ -8,12 +8,6 @@ use mathlib.Core.Path.{sym, _∙_}
 use borrow.Author.Needs.{needs}
 use Rattle.views.proofs.balance.Statement.{statement}
 use Rattle.views.proofs.balance.Tie as tie
-use Rattle.views.proofs.balance.Reads as reads
-use Rattle.views.proofs.balance.Lts as lts
-use Rattle.checks.proofs.initialised_check.Reads as initialised-check-reads
-use Rattle.outcome.proofs.refuse.Reads as refuse-reads
-use Rattle.outcome.proofs.viewed.Reads as viewed-reads
-use Rattle.token.proofs.vault_balance.Reads as vault-balance-reads
 
 initialised-check-requires : tie.Need-initialised-check-requires
 initialised-check-requires c κs = search needs

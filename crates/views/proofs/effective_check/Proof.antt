@@ -5,11 +5,6 @@ use native.Mathlib.Omega.{arith}
 use borrow.Author.Needs.{needs}
 use Rattle.views.proofs.effective_check.Statement.{statement}
 use Rattle.views.proofs.effective_check.Tie as tie
-use Rattle.views.proofs.effective_check.Reads as reads
-use Rattle.views.proofs.effective_check.Lts as lts
-use Rattle.checks.proofs.initialised_check.Reads as initialised-check-reads
-use Rattle.checks.proofs.paused_check.Reads as paused-check-reads
-use Rattle.views.proofs.withdraw_cap_check.Reads as withdraw-cap-check-reads
 
 paused-check-requires : tie.Need-paused-check-requires
 paused-check-requires c κs = search needs

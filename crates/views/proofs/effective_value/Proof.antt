@@ -5,12 +5,6 @@ use mathlib.Core.Path.{sym, _∙_}
 use borrow.Author.Needs.{needs}
 use Rattle.views.proofs.effective_value.Statement.{statement}
 use Rattle.views.proofs.effective_value.Tie as tie
-use Rattle.views.proofs.effective_value.Reads as reads
-use Rattle.views.proofs.effective_value.Lts as lts
-use Rattle.amount.proofs.below.Reads as below-reads
-use Rattle.amount.proofs.read_amount.Reads as read-amount-reads
-use Rattle.fields.proofs.get8.Reads as get8-reads
-use Rattle.token.proofs.vault_balance.Reads as vault-balance-reads
 
 vault-balance-requires : tie.Need-vault-balance-requires
 vault-balance-requires c κs = search needs

@@ -2,10 +2,6 @@
 use borrow.Author.Needs.{needs}
 use Rattle.views.proofs.effective_withdraw_limit.Statement.{statement}
 use Rattle.views.proofs.effective_withdraw_limit.Tie as tie
-use Rattle.views.proofs.effective_withdraw_limit.Reads as reads
-use Rattle.views.proofs.effective_withdraw_limit.Lts as lts
-use Rattle.record.proofs.caller.Reads as caller-reads
-use Rattle.views.proofs.effective_withdraw_limit_of.Reads as effective-withdraw-limit-of-reads
 
 caller-requires : tie.Need-caller-requires
 caller-requires c κs = search needs

@@ -7,12 +7,6 @@ use mathlib.Core.Path.{refl, sym, _∙_}
 use borrow.Author.Needs.{needs}
 use Rattle.views.proofs.effective_withdraw_limit_of.Statement.{statement}
 use Rattle.views.proofs.effective_withdraw_limit_of.Tie as tie
-use Rattle.views.proofs.effective_withdraw_limit_of.Reads as reads
-use Rattle.views.proofs.effective_withdraw_limit_of.Lts as lts
-use Rattle.outcome.proofs.refuse.Reads as refuse-reads
-use Rattle.outcome.proofs.viewed.Reads as viewed-reads
-use Rattle.views.proofs.effective_check.Reads as effective-check-reads
-use Rattle.views.proofs.effective_value.Reads as effective-value-reads
 
 effective-check-requires : tie.Need-effective-check-requires
 effective-check-requires c κs = search needs

@@ -8,12 +8,6 @@ use mathlib.Core.Path.{refl}
 use borrow.Author.Needs.{needs}
 use Rattle.views.proofs.get_token_account_balance.Statement.{statement}
 use Rattle.views.proofs.get_token_account_balance.Tie as tie
-use Rattle.views.proofs.get_token_account_balance.Reads as reads
-use Rattle.views.proofs.get_token_account_balance.Lts as lts
-use Rattle.outcome.proofs.viewed.Reads as viewed-reads
-use Rattle.record.proofs.caller.Reads as caller-reads
-use Rattle.record.proofs.token.Reads as token-reads
-use Rattle.views.proofs.account_balance.Reads as account-balance-reads
 
 token-requires : tie.Need-token-requires
 token-requires c κs = search needs

@@ -8,13 +8,6 @@ use mathlib.Core.Path.{refl}
 use borrow.Author.Needs.{needs}
 use Rattle.views.proofs.is_token_approved.Statement.{statement}
 use Rattle.views.proofs.is_token_approved.Tie as tie
-use Rattle.views.proofs.is_token_approved.Reads as reads
-use Rattle.views.proofs.is_token_approved.Lts as lts
-use Rattle.amount.proofs.from_u64.Reads as from-u64-reads
-use Rattle.checks.proofs.has.Reads as has-reads
-use Rattle.fields.proofs.get64.Reads as get64-reads
-use Rattle.outcome.proofs.viewed.Reads as viewed-reads
-use Rattle.record.proofs.token.Reads as token-reads
 
 token-requires : tie.Need-token-requires
 token-requires c κs = search needs

@@ -2,10 +2,6 @@
 use borrow.Author.Needs.{needs}
 use Rattle.views.proofs.is_token_compliant.Statement.{statement}
 use Rattle.views.proofs.is_token_compliant.Tie as tie
-use Rattle.views.proofs.is_token_compliant.Reads as reads
-use Rattle.views.proofs.is_token_compliant.Lts as lts
-use Rattle.record.proofs.token.Reads as token-reads
-use Rattle.views.proofs.is_token_compliant_of.Reads as is-token-compliant-of-reads
 
 token-requires : tie.Need-token-requires
 token-requires c κs = search needs

@@ -7,13 +7,6 @@ use mathlib.Core.Path.{refl, sym, _∙_}
 use borrow.Author.Needs.{needs}
 use Rattle.views.proofs.is_token_compliant_of.Statement.{statement}
 use Rattle.views.proofs.is_token_compliant_of.Tie as tie
-use Rattle.views.proofs.is_token_compliant_of.Reads as reads
-use Rattle.views.proofs.is_token_compliant_of.Lts as lts
-use Rattle.amount.proofs.from_u64.Reads as from-u64-reads
-use Rattle.amount.proofs.zero.Reads as zero-reads
-use Rattle.outcome.proofs.refuse.Reads as refuse-reads
-use Rattle.outcome.proofs.viewed.Reads as viewed-reads
-use Rattle.token.proofs.presence_check.Reads as presence-check-reads
 
 zero-requires : tie.Need-zero-requires
 zero-requires c κs = search needs

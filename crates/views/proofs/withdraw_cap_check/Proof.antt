@@ -6,11 +6,6 @@ use mathlib.Core.Path.{refl}
 use borrow.Author.Needs.{needs}
 use Rattle.views.proofs.withdraw_cap_check.Statement.{statement}
 use Rattle.views.proofs.withdraw_cap_check.Tie as tie
-use Rattle.views.proofs.withdraw_cap_check.Reads as reads
-use Rattle.views.proofs.withdraw_cap_check.Lts as lts
-use Rattle.checks.proofs.flag_of.Reads as flag-of-reads
-use Rattle.checks.proofs.is_insider.Reads as is-insider-reads
-use Rattle.fields.proofs.get8.Reads as get8-reads
 
 get8-requires : tie.Need-get8-requires
 get8-requires c κs = search needs

@@ -2,8 +2,8 @@
 use lib.ListN.{length-take}
 use native.Mathlib.Omega.{arith}
 use borrow.Author.Needs.{needs}
-use Rattle.vault_vectors.proofs.fit_list.Statement.{statement}
-use Rattle.vault_vectors.proofs.fit_list.Tie as tie
+use Rattle.token_vault_vectors.proofs.fit_list.Statement.{statement}
+use Rattle.token_vault_vectors.proofs.fit_list.Tie as tie
 
 get32-requires : tie.Need-get32-requires
 get32-requires c κs = search needs

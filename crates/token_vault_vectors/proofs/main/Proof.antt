@@ -1,6 +1,7 @@
+-- `main` is safe and ends: the measure is the number of turns that are left.
 use borrow.Author.Needs.{needs}
-use Rattle.vault_vectors.proofs.main_loop.Statement.{statement}
-use Rattle.vault_vectors.proofs.main_loop.Tie as tie
+use Rattle.token_vault_vectors.proofs.main.Statement.{statement}
+use Rattle.token_vault_vectors.proofs.main.Tie as tie
 
 abbrev Inv-loop : tie.InvT-loop
 Inv-loop turns₀ turns = Unit {0}
@@ -29,8 +30,8 @@ returns c = search needs
 returns-2 : tie.Need-returns-2 Inv-loop μ-loop
 returns-2 c = search needs
 
-pub main-loop-spec : {M : Type 1} → statement M
-main-loop-spec =
+pub main-spec : {M : Type 1} → statement M
+main-spec =
     tie.close
     (tie.spec
     Inv-loop

@@ -2,8 +2,8 @@
 use mathlib.Core.Path.{_≡_}
 use lib.ListN.{length}
 use borrow.Author.Needs.{needs}
-use Rattle.vault_vectors.proofs.all_calls.Statement.{statement}
-use Rattle.vault_vectors.proofs.all_calls.Tie as tie
+use Rattle.token_vault_vectors.proofs.all_calls.Statement.{statement}
+use Rattle.token_vault_vectors.proofs.all_calls.Tie as tie
 
 abbrev Inv-loop : tie.InvT-loop
 Inv-loop image₀ journal₀ count left₀ image journal left = (length image ≡ length image₀) × (length journal ≡ length journal₀)

@@ -2,8 +2,8 @@
 use lib.ListN.{length-take}
 use native.Mathlib.Omega.{arith}
 use borrow.Author.Needs.{needs}
-use Rattle.vault_vectors.proofs.fit_call.Statement.{statement}
-use Rattle.vault_vectors.proofs.fit_call.Tie as tie
+use Rattle.token_vault_vectors.proofs.fit_call.Statement.{statement}
+use Rattle.token_vault_vectors.proofs.fit_call.Tie as tie
 
 get16-requires : tie.Need-get16-requires
 get16-requires c κs = search needs
