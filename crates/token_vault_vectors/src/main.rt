@@ -1,4 +1,4 @@
-// Replays the vectors of docs/VECTORS.md, calls made by the contract's Rust: lists of calls from standard input, a line a call to standard output.
+// Replays the vectors of docs/VECTORS.md: lists of calls from standard input, a line a call to standard output. The stored lines are those of the contract's Rust and of the model.
 use libc::STDIN_FILENO;
 use libc::STDOUT_FILENO;
 ghost use Prim.Native.Nat.{_≤_};
