@@ -3,12 +3,14 @@ use mathlib.Core.Path.{_≡_, refl, sym, _∙_, subst}
 use mathlib.Core.List.{List}
 use Prim.Native.Nat.{ℕ, zero, suc, _+_, _-_, _≤_, _<_}
 use native.Mathlib.Omega.{arith}
+use lib.IntN.{ℤ}
 use Rattle.deposits.specs.Deposit.{depositHolding, expectedHolding}
 use Rattle.deposits.specs.Moved.{transfer-most, no-toll}
 use Rattle.deposits.specs.Laws.{expected-free}
 use Rattle.book.specs.Moves.{Moves, moves-then, moves-none, transfer-moves, snapshot-moves, still-begun, still-kind}
 use Rattle.book.specs.Book.{Book, change, adds, addsItems, BookIs}
 use Rattle.book.specs.Entries.{added, settled}
+use Rattle.book.specs.Integers.{integerOf}
 use Rattle.record.specs.Record.{itemAddress, itemAmount}
 use Rattle.token.specs.Token.{transferRules, transferOf}
 use Rattle.token.specs.Laws.{transfer-free, good-transfer}
@@ -49,14 +51,14 @@ transfers-most (suc n) r t i l g a z =
     omega arith
 
 -- one item, whose amount arrived whole
-item-booked : (l : List ℕ) (t from n : ℕ) → Good l → from < 64 → bias < n → AllFail (transferRules l t from 1 n) → depositHolding l t from n ≡ expectedHolding l t n → (b : Book) → BookIs b l → BookIs (adds t (n - bias) b) (transferOf l t from 1 n)
+item-booked : (l : List ℕ) (t from n : ℕ) → Good l → from < 64 → bias < n → AllFail (transferRules l t from 1 n) → depositHolding l t from n ≡ expectedHolding l t n → (b : Book) → BookIs b l → BookIs (adds t (integerOf n) b) (transferOf l t from 1 n)
 item-booked l t from n g fh p f due b m =
     let (low, (high, _)) = f in
     let k = no-toll l t from n g fh p f due in
     let h = holding-range l (slot t) 1 g (omega arith) (omega arith) .0 in
-    added b m (transfer-moves l t from 1 n g fh (omega arith) (omega arith) f) low high (n - bias) (omega arith)
+    added b m (transfer-moves l t from 1 n g fh (omega arith) (omega arith) f) low high n (omega arith)
 
-adds-token : (a n : ℕ) (b : Book) → adds a n b .token ≡ b .token
+adds-token : (a : ℕ) (n : ℤ) (b : Book) → adds a n b .token ≡ b .token
 unfolding adds change
 adds-token a n b = refl
 
@@ -75,8 +77,8 @@ transfers-booked (suc n) r t i l g a z e b c m =
     let k = transfers-most n r t (suc i) (itemTransfer l r t i) v rest (o .1) in
     let due : depositHolding l t (itemAddress r i) (itemAmount r i) ≡ expectedHolding l t (itemAmount r i) = omega arith in
     let y = item-booked l t (itemAddress r i) (itemAmount r i) g w x f due b m in
-    let y′ = subst (λ (u : ℕ). BookIs (adds u (itemAmount r i - bias) b) (itemTransfer l r t i)) (sym c) y in
-    transfers-booked n r t (suc i) (itemTransfer l r t i) v rest (o .1) (omega arith) (adds (b .token) (itemAmount r i - bias) b) (adds-token (b .token) (itemAmount r i - bias) b ∙ c) y′
+    let y′ = subst (λ (u : ℕ). BookIs (adds u (integerOf (itemAmount r i)) b) (itemTransfer l r t i)) (sym c) y in
+    transfers-booked n r t (suc i) (itemTransfer l r t i) v rest (o .1) (omega arith) (adds (b .token) (integerOf (itemAmount r i)) b) (adds-token (b .token) (integerOf (itemAmount r i)) b ∙ c) y′
 
 -- ---- the operation
 module _ (l r : List ℕ) (signers seq count : ℕ) (g : Good l) (senders : (j : ℕ) → j < count → itemAddress r j < 64) (z : batchOutcome l r signers seq count .number ≡ 0) where

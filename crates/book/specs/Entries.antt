@@ -2,13 +2,12 @@
 use mathlib.Core.Path.{_≡_, refl, sym, ap, _∙_}
 use mathlib.Core.Bool.{Bool, true, not}
 use mathlib.Core.List.{List}
-use Prim.Native.Nat.{ℕ, zero, suc, _+_, _-_, _≤_, _<_}
+use Prim.Native.Nat.{ℕ, _+_, _-_, _≤_, _<_}
 use native.Mathlib.Decide.{ℕ-discrete}
-use lib.Seq.{getD-set-same, getD-set-other}
 use native.Mathlib.Omega.{arith}
-use borrow.Author.Tests.{not-true}
+use borrow.Author.Tests.{eq-eqb, ne-eqb, not-true}
 use lib.Dec.{eqb}
-use lib.ListN.{length, getD, set, length-set}
+use lib.IntN.{ℤ, _+ℤ_, _-ℤ_}
 use Rattle.image.specs.Layout.{slot, tokenAt, tollAt, holdingAt, defaultToken, destination, toll, holding, hasMigration}
 use Rattle.amount.specs.Frame.{same-amountAt}
 use Rattle.amount.specs.Laws.{by-lt}
@@ -16,68 +15,53 @@ use Rattle.amount.specs.Biased.{bias}
 use Rattle.fields.specs.Frame.{Only, Agree, only-put, under, over, part, same-le}
 use Rattle.fields.specs.Bytes.{put}
 use Rattle.fields.specs.Logic.{_and_, and-l, and-r}
+use Rattle.fields.specs.Rules.{pick}
 use Rattle.record.specs.Record.{operationOf}
+use Rattle.book.specs.Integers.{integerOf, notBelowZero, integer-more, integer-net, integer-less}
 use Rattle.book.specs.Moves.{Moves}
-use Rattle.book.specs.Book.{Book, table, vaultHolding, tollValue, openBook, change, net, adds, takes, enterBook, BookIs}
-
-table-length : (f : ℕ → ℕ) (n i : ℕ) → length (table f n i) ≡ n
-unfolding table
-table-length f zero i = refl
-table-length f (suc n) i = ap suc (table-length f n (suc i))
-
-table-at : (f : ℕ → ℕ) (n i t : ℕ) → t < n → getD (table f n i) t 0 ≡ f (i + t)
-unfolding table
-table-at f zero i t h = absurd (omega arith)
-table-at f (suc n) i zero h = ap f (omega arith)
-table-at f (suc n) i (suc t) h = table-at f n (suc i) t (omega arith) ∙ ap f (omega arith)
+use Rattle.book.specs.Book.{Book, vaultHolding, openBook, change, net, adds, takes, enterBook, BookIs}
 
 pub opens : (x : List ℕ) → BookIs (openBook x) x
 unfolding openBook
-opens x =
-    record {
-      sixteen = table-length (vaultHolding x) 16 0;
-      numbered = λ t h. table-at (vaultHolding x) 16 0 t h ∙ ap (vaultHolding x) (omega arith);
-      tolled = λ t h. table-at (tollValue x) 16 0 t h ∙ ap (tollValue x) (omega arith);
-      default = refl;
-      migrating = λ i. refl;
-    }
+opens x = record { numbered = λ t low high. refl; tolled = λ t low high. refl; default = refl; migrating = λ i. refl }
 
 -- ---- an operation that moves money of one token
 module _ (b : Book) {t new : ℕ} {l m : List ℕ} (fits : BookIs b l) (v : Moves t new l m) (low : 48 ≤ t) (high : t < 64) where
-  pub changed : (f : ℕ → ℕ) → new - bias ≡ f (vaultHolding l (slot t)) → BookIs (change f t b) m
+  pub changed : (f : ℤ → ℤ) → integerOf new ≡ f (vaultHolding l t) → BookIs (change f t b) m
   unfolding change
   changed f e =
       record {
-        sixteen = simp length-set (fits .sixteen);
-        numbered = λ u h. at u h (ℕ-discrete u (slot t));
-        tolled = λ u h. fits .tolled u h ∙ ap (λ (k : ℕ). k - bias) (sym (v .tolls u h));
+        numbered = λ u g h. at u g h (ℕ-discrete u t);
+        tolled = λ u g h. fits .tolled u g h ∙ ap integerOf (sym (v .tolls (slot u) (omega arith)));
         default = fits .default ∙ sym (v .token);
         migrating = λ i. fits .migrating (rw (v .flagged) at i) ∙ sym (v .to);
       }
     where
-      at : (u : ℕ) → u < 16 → Dec (u ≡ slot t) → getD (set (b .numbers) (slot t) (f (getD (b .numbers) (slot t) 0))) u 0 ≡ vaultHolding m u
-      at u h (yes p) =
-          let n = fits .sixteen in
-          rw p (getD-set-same (b .numbers) (slot t) _ 0 (omega arith) ∙ (ap f (fits .numbered (slot t) (omega arith)) ∙ (sym e ∙ ap (λ (k : ℕ). k - bias) (sym (v .this)))))
-      at u h (no p) = getD-set-other (b .numbers) (slot t) u _ 0 p ∙ (fits .numbered u h ∙ ap (λ (k : ℕ). k - bias) (sym (v .other u h p)))
+      at : (u : ℕ) → 48 ≤ u → u < 64 → Dec (u ≡ t) → pick (eqb u t) (f (b .numbers u)) (b .numbers u) ≡ vaultHolding m u
+      at u g h (yes p) =
+          rw (eq-eqb u t p) (ap f (fits .numbered u g h) ∙ rw p (sym e ∙ ap integerOf (sym (v .this))))
+      at u g h (no p) =
+          rw (ne-eqb u t p) (fits .numbered u g h ∙ ap integerOf (sym (v .other (slot u) (omega arith) (λ q. p (omega arith)))))
 
-  pub added : (n : ℕ) → new - bias ≡ vaultHolding l (slot t) + (n - tollValue l (slot t)) → BookIs (adds t n b) m
+  -- what arrives of an amount is added, in numbers
+  pub added : (n : ℕ) → new ≡ holding l (slot t) 1 + (n - toll l (slot t)) → BookIs (adds t (integerOf n) b) m
   unfolding adds net
   added n e =
-      let k : getD (b .tolls) (slot t) 0 ≡ tollValue l (slot t) = fits .tolled (slot t) (omega arith) in
-      changed (λ h. h + (n - getD (b .tolls) (slot t) 0)) (rw k e)
+      changed (λ h. h +ℤ notBelowZero (integerOf n -ℤ b .tolls t))
+      (ap integerOf e ∙ integer-more (holding l (slot t) 1) (n - toll l (slot t))
+      ∙ ap (λ (k : ℤ). vaultHolding l t +ℤ k) (sym (ap (λ (k : ℤ). notBelowZero (integerOf n -ℤ k)) (fits .tolled t low high) ∙ integer-net n (toll l (slot t)))))
 
-  pub taken : (n : ℕ) → new - bias ≡ vaultHolding l (slot t) - n → BookIs (takes t n b) m
+  -- an amount is taken, in numbers
+  pub taken : (n : ℕ) → new + n ≡ holding l (slot t) 1 + bias → BookIs (takes t (integerOf n) b) m
   unfolding takes
-  taken n e = changed (λ h. h - n) e
+  taken n e = changed (λ h. h -ℤ integerOf n) (integer-less (holding l (slot t) 1) n new e)
 
 -- a transfer that leaves the vault's holding
 pub still-booked : (b : Book) {t : ℕ} {l m : List ℕ} → BookIs b l → Moves t (holding l (slot t) 1) l m → BookIs b m
 still-booked b {t} {l} {m} fits v =
     record {
-      sixteen = fits .sixteen;
-      numbered = λ u h. fits .numbered u h ∙ ap (λ (k : ℕ). k - bias) (sym (at u h (ℕ-discrete u (slot t))));
-      tolled = λ u h. fits .tolled u h ∙ ap (λ (k : ℕ). k - bias) (sym (v .tolls u h));
+      numbered = λ u g h. fits .numbered u g h ∙ ap integerOf (sym (at (slot u) (omega arith) (ℕ-discrete (slot u) (slot t))));
+      tolled = λ u g h. fits .tolled u g h ∙ ap integerOf (sym (v .tolls (slot u) (omega arith)));
       default = fits .default ∙ sym (v .token);
       migrating = λ i. fits .migrating (rw (v .flagged) at i) ∙ sym (v .to);
     }
@@ -91,9 +75,8 @@ pub kind-booked : (b : Book) (l : List ℕ) (t k : ℕ) → t < 16 → BookIs b 
 kind-booked b l t k h fits =
     let o = only-put 8 l (tokenAt t) k in
     record {
-      sixteen = fits .sixteen;
-      numbered = λ u q. fits .numbered u q ∙ ap (λ (k : ℕ). k - bias) (sym (same-amountAt (holdingAt u 1) (over (holdingAt u 1) 16 (tokenAt t) 8 o (omega arith))));
-      tolled = λ u q. fits .tolled u q ∙ ap (λ (k : ℕ). k - bias) (sym (tolls u));
+      numbered = λ u g q. fits .numbered u g q ∙ ap integerOf (sym (same-amountAt (holdingAt (slot u) 1) (over (holdingAt (slot u) 1) 16 (tokenAt t) 8 o (omega arith))));
+      tolled = λ u g q. fits .tolled u g q ∙ ap integerOf (sym (tolls (slot u)));
       default = fits .default ∙ sym (same-le 1 3 (under 3 1 (tokenAt t) 8 o (omega arith)));
       migrating = λ i. fits .migrating (rw (same-le 2 0 (under 0 2 (tokenAt t) 8 o (omega arith))) at i) ∙ sym (same-le 1 7 (under 7 1 (tokenAt t) 8 o (omega arith)));
     }
@@ -111,9 +94,8 @@ module _ (b : Book) {l m : List ℕ} (fits : BookIs b l) (a : Agree 3680 16768 l
       → BookIs (record { numbers = b .numbers; tolls = b .tolls; token = token; destination = to }) m
   unmoved token to e f =
       record {
-        sixteen = fits .sixteen;
-        numbered = λ u h. fits .numbered u h ∙ ap (λ (k : ℕ). k - bias) (sym (same-amountAt (holdingAt u 1) (part (holdingAt u 1) 16 a (omega arith) (omega arith))));
-        tolled = λ u h. fits .tolled u h ∙ ap (λ (k : ℕ). k - bias) (sym (same-amountAt (tollAt u) (part (tollAt u) 16 a (omega arith) (omega arith))));
+        numbered = λ u g h. fits .numbered u g h ∙ ap integerOf (sym (same-amountAt (holdingAt (slot u) 1) (part (holdingAt (slot u) 1) 16 a (omega arith) (omega arith))));
+        tolled = λ u g h. fits .tolled u g h ∙ ap integerOf (sym (same-amountAt (tollAt (slot u)) (part (tollAt (slot u)) 16 a (omega arith) (omega arith))));
         default = e;
         migrating = f;
       }

@@ -1,5 +1,8 @@
 -- The book of document 01, and how operations move it.
+pub mod Integers
 pub mod Book
 pub mod Moves
 pub mod Entries
+pub mod Flows
+pub mod Flowed
 pub mod Owed

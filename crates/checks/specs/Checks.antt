@@ -92,8 +92,14 @@ amountNumber n = verdict (amountRules n)
 unfoldable pub maxVaultDeposit : ℕ
 maxVaultDeposit = 10 ^ 30
 
+abbrev pub maxDepositRules : ℕ → List Rule
+maxDepositRules n = when (lt (bias + maxVaultDeposit) n) 5 ∷ []
+
+unfoldable pub maxDepositNumber : ℕ → ℕ
+maxDepositNumber n = verdict (maxDepositRules n)
+
 abbrev pub depositAmountRules : ℕ → List Rule
-depositAmountRules n = when (leq n bias) 4 ∷ when (lt (bias + maxVaultDeposit) n) 5 ∷ []
+depositAmountRules n = when (leq n bias) 4 ∷ maxDepositRules n
 
 unfoldable pub depositAmountNumber : ℕ → ℕ
 depositAmountNumber n = verdict (depositAmountRules n)

@@ -5,7 +5,7 @@ ghost use Prim.Native.Nat.{_+_, _<_, _≤_};
 ghost use lib.ListN.{length};
 ghost use Rattle.amount.specs.Biased.{bias, biased};
 ghost use Rattle.image.specs.Layout.{imageLength};
-ghost use Rattle.checks.specs.Checks.{maxVaultDeposit, flag, inSet, insider, pausedNumber, signedNumber, initialisedNumber, notOwnerNumber, ownerNumber, notInsiderNumber, sharedNumber, amountNumber, depositAmountNumber, approvedNumber, limitNumber, capNumber, fundsNumber};
+ghost use Rattle.checks.specs.Checks.{maxVaultDeposit, flag, inSet, insider, pausedNumber, signedNumber, initialisedNumber, notOwnerNumber, ownerNumber, notInsiderNumber, sharedNumber, amountNumber, maxDepositNumber, depositAmountNumber, approvedNumber, limitNumber, capNumber, fundsNumber};
 
 // Bit k of the flags.
 pub fn flag_of(img: &[u8], k: u16) -> u16
@@ -143,6 +143,16 @@ fn max_vault_deposit() -> Amount
         hi: 54210108624,
         lo: 5076944270305263616,
     }
+}
+
+// 5.
+pub fn max_deposit_check(n: Amount) -> u8
+    ensures { λ r. ⌜ r ≡ maxDepositNumber (biased n) ⌝ }
+{
+    if amount::below(max_vault_deposit(), n) != 0 {
+        return 5;
+    }
+    0
 }
 
 // 4, 5.

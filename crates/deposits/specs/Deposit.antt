@@ -5,7 +5,7 @@ use Prim.Native.Nat.{ℕ, _+_, _-_}
 use lib.Dec.{ltb}
 use Rattle.outcome.specs.Outcome.{Outcome}
 use Rattle.outcome.specs.Checked.{checked}
-use Rattle.checks.specs.Checks.{pausedNumber, sharedNumber, depositAmountNumber, approvedNumber, limitNumber}
+use Rattle.checks.specs.Checks.{pausedNumber, sharedNumber, maxDepositNumber, depositAmountNumber, approvedNumber, limitNumber}
 use Rattle.events.specs.Kinds.{depositedEvent, tokenDepositedEvent}
 use Rattle.record.specs.Record.{callerOf, sequenceOf, signersOf, amountOf, feeOf}
 use Rattle.token.specs.Token.{transferNumber, transferOf}
@@ -93,7 +93,7 @@ feeNumber gross fee = verdict (feeRules gross fee)
 
 -- and 5: gross above 10 ^ 30
 unfoldable pub grossNumber : ℕ → ℕ → ℕ
-grossNumber gross fee = chain (feeNumber gross fee ∷ depositAmountNumber gross ∷ [])
+grossNumber gross fee = chain (feeNumber gross fee ∷ maxDepositNumber gross ∷ [])
 
 abbrev pub netOf : ℕ → ℕ → ℕ
 netOf gross fee = gross + bias - fee

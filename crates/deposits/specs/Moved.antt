@@ -10,6 +10,7 @@ use lib.ListN.{getD}
 use Rattle.book.specs.Moves.{Moves, moves-then, moves-none, transfer-moves, credit-moves, snapshot-moves, still-begun, still-kind}
 use Rattle.book.specs.Book.{Book, adds, BookIs}
 use Rattle.book.specs.Entries.{added}
+use Rattle.book.specs.Integers.{integerOf}
 use Rattle.events.specs.Kinds.{depositedEvent, vaultDepositFailedEvent}
 use Rattle.events.specs.Event.{eventBuffer}
 use Rattle.token.specs.Token.{arrives, debited, received, transferRules, transferNumber, transferOf}
@@ -99,13 +100,13 @@ module _ (l : List ℕ) (t from seq n : ℕ) (g : Good l) (i : initialised l ≡
       let m = moves-then v (moves-then s w) in
       rw (s .this ∙ due) at m
 
-  pub deposit-booked : {m : List ℕ} → Moves t (expectedHolding l t n) l m → (b : Book) → BookIs b l → BookIs (adds t (n - bias) b) m
+  pub deposit-booked : {m : List ℕ} → Moves t (expectedHolding l t n) l m → (b : Book) → BookIs b l → BookIs (adds t (integerOf n) b) m
   deposit-booked v b is =
       let (f, due) = receive-free l t from n refl z in
       let (low, (high, _)) = f in
       let k = no-toll l t from n g fh p f due in
       let h = holding-range l (slot t) 1 g (omega arith) (omega arith) .0 in
-      added b is v low high (n - bias) (omega arith)
+      added b is v low high n (omega arith)
 
 -- ---- of the default token, as the book names it
 module _ (l : List ℕ) (caller signers seq n : ℕ) (g : Good l) (who : caller < 64) (a : depositChecks l caller signers seq n ≡ 0) (z : receiveNumber l (defaultToken l) caller n ≡ 0) where
@@ -115,9 +116,9 @@ module _ (l : List ℕ) (caller signers seq n : ℕ) (g : Good l) (who : caller 
   pub default-good : Good (depositImage l (defaultToken l) caller seq n)
   default-good = deposit-moves l (defaultToken l) caller seq n g (passed .begun) who (passed .above) z .good
 
-  pub default-booked : (b : Book) → BookIs b l → BookIs (adds (b .token) (n - bias) b) (depositImage l (defaultToken l) caller seq n)
+  pub default-booked : (b : Book) → BookIs b l → BookIs (adds (b .token) (integerOf n) b) (depositImage l (defaultToken l) caller seq n)
   default-booked b is =
-      subst (λ (t : ℕ). BookIs (adds t (n - bias) b) (depositImage l (defaultToken l) caller seq n)) (sym (is .default))
+      subst (λ (t : ℕ). BookIs (adds t (integerOf n) b) (depositImage l (defaultToken l) caller seq n)) (sym (is .default))
       (deposit-booked l (defaultToken l) caller seq n g (passed .begun) who (passed .above) z (deposit-moves l (defaultToken l) caller seq n g (passed .begun) who (passed .above) z) b is)
 
 -- ---- operation 9: a transfer that fails leaves the image, and is announced by event 17
@@ -132,12 +133,12 @@ module _ (l : List ℕ) (t from seq n : ℕ) (g : Good l) (i : initialised l ≡
       go false e z = g
 
   pub report-booked : (b : Book) → BookIs b l → reportOutcome l t from seq n .number ≡ 0
-      → BookIs (pick (eqb (getD (eventBuffer (reportOutcome l t from seq n .events)) 0 0) 17) b (adds t (n - bias) b)) (reportOutcome l t from seq n .image)
+      → BookIs (pick (eqb (getD (eventBuffer (reportOutcome l t from seq n .events)) 0 0) 17) b (adds t (integerOf n) b)) (reportOutcome l t from seq n .image)
   unfolding reportOutcome vaultDepositFailedEvent depositedEvent
   report-booked b m z = go (eqb (transferNumber l t from 1 n) 0) refl z
     where
       go : (x : Bool) → eqb (transferNumber l t from 1 n) 0 ≡ x → pick x (settledReport l t from seq n) (failedReport l t from n) .number ≡ 0
-          → BookIs (pick (eqb (getD (eventBuffer (pick x (settledReport l t from seq n) (failedReport l t from n) .events)) 0 0) 17) b (adds t (n - bias) b)) (pick x (settledReport l t from seq n) (failedReport l t from n) .image)
+          → BookIs (pick (eqb (getD (eventBuffer (pick x (settledReport l t from seq n) (failedReport l t from n) .events)) 0 0) 17) b (adds t (integerOf n) b)) (pick x (settledReport l t from seq n) (failedReport l t from n) .image)
       go true e z =
           let r = received-all l t from n (eqb-true _ 0 e) (credited-free l t from n refl z) in
           rw first-byte (deposit-booked l t from seq n g i fh p r (deposit-moves l t from seq n g i fh p r) b m)

@@ -173,7 +173,7 @@ fn gross_check(gross: Amount, fee: Amount) -> u8
     if k != 0 {
         return k;
     }
-    checks::deposit_amount_check(gross)
+    checks::max_deposit_check(gross)
 }
 
 fn deposit_with_fee_of(

@@ -5,10 +5,11 @@ use mathlib.Core.Bool.{Bool, true, false}
 use mathlib.Core.List.{List, [], _∷_, _++_, map, reverse, reverse-cons, map-append}
 use Prim.Native.Nat.{ℕ}
 use lib.Dec.{eqb}
+use lib.IntN.{ℤ, pos, _+ℤ_, +ℤ-assoc, +ℤ-idl, +ℤ-idr}
 use borrow.Author.Tests.{eqb-true, eqb-false}
 use Rattle.fields.specs.Rules.{pick}
 use Rattle.journal.specs.Calls.{Call, operation, begin, commit, rollback, undo, State, Answer, Step}
-use Rattle.history.specs.Kept.{Noted, note, callOf, bare, strike, strikeAll, place, run, log, accepted, keep, keptOf, kept, bookOne, book, SameAsKept}
+use Rattle.history.specs.Kept.{Noted, note, callOf, bare, strike, strikeAll, place, run, log, accepted, keep, keptOf, kept, bookOne, book, total, SameAsKept}
 
 abbrev pub ok : (State → Call → Step) → State → Call → Type 0
 ok step s c = step s c .answer .number ≡ 0
@@ -20,6 +21,8 @@ pub record Laws (step : State → Call → Step) (view : List ℕ → Bool) (Goo
   pub op-good : (s : State) (r e : List ℕ) → Good s → ok step s (operation r e) → Good (step s (operation r e) .state)
   pub begin-good : (s : State) → Good s → ok step s begin → Good (step s begin .state)
   pub commit-good : (s : State) → Good s → ok step s commit → Good (step s commit .state)
+  pub begin-image : (s : State) → Good s → ok step s begin → step s begin .state .image ≡ s .image
+  pub commit-image : (s : State) → Good s → ok step s commit → step s commit .state .image ≡ s .image
   pub commit-closes : (s : State) → Good s → ok step s commit → ok step (step s commit .state) begin
   pub closed-undo : (s : State) → Good s → ok step s begin → ok step s undo → ⊥
   pub closed-roll : (s : State) → Good s → ok step s begin → ok step s rollback → ⊥
@@ -196,13 +199,11 @@ kept-calls step view s x cs =
     sym (forget-calls (keep step view s [] (log step x cs)))
     ∙ ap (λ l. map callOf (reverse l)) (forget-keep step view s (log step x cs) [] ∙ ap (λ l. keep step view s [] l) (forget-log step x cs))
 
--- what the book asks of one step: an operation moves the holdings as its entry does, begin and commit leave the image
+-- what the book asks of one step: an operation moves the holdings as its entry does
 pub record BookLaws (step : State → Call → Step) (view : List ℕ → Bool) (Good : State → Type 0) {B : Type 0} (enter : B → List ℕ → Answer → B)
     (Match : B → List ℕ → Type 0) : Type 0 where
   pub entered : (b : B) (s : State) (r e : List ℕ) → Good s → ok step s (operation r e) → view r ≡ false → Match b (s .image)
       → Match (enter b r (step s (operation r e) .answer)) (step s (operation r e) .state .image)
-  pub begin-image : (s : State) → Good s → ok step s begin → step s begin .state .image ≡ s .image
-  pub commit-image : (s : State) → Good s → ok step s commit → step s commit .state .image ≡ s .image
 
 book-append : {B : Type 0} (enter : B → List ℕ → Answer → B) (b : B) (xs ys : List (Noted Answer)) → book enter b (xs ++ ys) ≡ book enter (book enter b xs) ys
 book-append enter b [] ys = refl
@@ -217,15 +218,15 @@ module _ (step : State → Call → Step) (view : List ℕ → Bool) (Good : Sta
       rw (reverse-cons (note (operation r e) t) ks, book-append, n)
       (K .entered _ _ r e (good step view Good L s start closed k) a v (booked k))
   booked (begun {ks = ks} t k a n) =
-      rw (reverse-cons (note begin t) ks, book-append, K .begin-image _ (good step view Good L s start closed k) a) (booked k)
+      rw (reverse-cons (note begin t) ks, book-append, L .begin-image _ (good step view Good L s start closed k) a) (booked k)
   booked (committed {ks = ks} t k a n) =
-      rw (reverse-cons (note commit t) ks, book-append, K .commit-image _ (good step view Good L s start closed k) a) (booked k)
+      rw (reverse-cons (note commit t) ks, book-append, L .commit-image _ (good step view Good L s start closed k) a) (booked k)
   booked (rolledBack {ks = ks} c t k a m o n) =
       rw (reverse-cons (note rollback t) (note begin c ∷ ks), reverse-cons (note begin c) ks, book-append (enter), book-append (enter), L .begun-roll _ (good step view Good L s start closed k) a)
       (booked k)
 
-  pub whole : (cs : List Call) → SameAsKept step view enter Match s b cs
-  whole cs = record { same = same; calls = calls; answers = answers; later = λ ds. ap (λ x. log step x ds) same; holds = rw (← answers, done .1) (booked (done .0)) }
+  pub whole : (cs : List Call) → SameAsKept step view Good enter Match s b cs
+  whole cs = record { same = same; good = subst Good (sym (done .1)) (good step view Good L s start closed (done .0)); calls = calls; answers = answers; later = λ ds. ap (λ x. log step x ds) same; holds = rw (← answers, done .1) (booked (done .0)) }
     where
       done : Goes step view Good L s start closed (keep step view s [] (log step s cs)) (run step s cs)
       done = all step view Good L s start closed cs [] s (none, refl)
@@ -238,3 +239,57 @@ module _ (step : State → Call → Step) (view : List ℕ → Bool) (Good : Sta
 
       answers : keptOf step view s (log step s cs) ≡ log step s (kept step view s cs)
       answers = sym (noted step view Good L s start closed (done .0)) ∙ ap (log step s) calls
+
+-- what a measure of the image asks of one step: an operation adds to it as f says
+pub record SumLaws (step : State → Call → Step) (view : List ℕ → Bool) (Good : State → Type 0) (h : List ℕ → ℤ) (f : List ℕ → List ℕ → Answer → ℤ) : Type 0 where
+  pub entered : (s : State) (r e : List ℕ) → Good s → ok step s (operation r e) → view r ≡ false
+      → h (step s (operation r e) .state .image) ≡ h (s .image) +ℤ f (s .image) r (step s (operation r e) .answer)
+
+total-append : (step : State → Call → Step) (f : List ℕ → List ℕ → Answer → ℤ) (s : State) (cs ds : List Call)
+    → total step f s (cs ++ ds) ≡ total step f s cs +ℤ total step f (run step s cs) ds
+total-append step f s [] ds = sym (+ℤ-idl (total step f s ds))
+total-append step f s (operation r e ∷ cs) ds =
+    let x = step s (operation r e) in
+    let a = f (s .image) r (x .answer) in
+    ap (λ (z : ℤ). a +ℤ z) (total-append step f (x .state) cs ds) ∙ sym (+ℤ-assoc a (total step f (x .state) cs) (total step f (run step (x .state) cs) ds))
+total-append step f s (begin ∷ cs) ds = total-append step f (step s begin .state) cs ds
+total-append step f s (commit ∷ cs) ds = total-append step f (step s commit .state) cs ds
+total-append step f s (rollback ∷ cs) ds = total-append step f (step s rollback .state) cs ds
+total-append step f s (undo ∷ cs) ds = total-append step f (step s undo .state) cs ds
+
+module _ (step : State → Call → Step) (view : List ℕ → Bool) (Good : State → Type 0) (L : Laws step view Good)
+    (h : List ℕ → ℤ) (f : List ℕ → List ℕ → Answer → ℤ) (K : SumLaws step view Good h f)
+    (s : State) (start : Good s) (closed : ok step s begin) where
+  -- one more call at the end of the kept list
+  one-more : (ks : List (Noted Answer)) (c : Call) (t : Answer)
+      → total step f s (map callOf (reverse (note c t ∷ ks))) ≡ total step f s (map callOf (reverse ks)) +ℤ total step f (after step s ks) (c ∷ [])
+  one-more ks c t = rw (reverse-cons (note c t) ks, map-append, total-append, after-run step s ks)
+
+  -- one that adds nothing
+  none-more : (ks : List (Noted Answer)) (c : Call) (t : Answer) → total step f (after step s ks) (c ∷ []) ≡ pos 0
+      → total step f s (map callOf (reverse (note c t ∷ ks))) ≡ total step f s (map callOf (reverse ks))
+  none-more ks c t z =
+      let rest = total step f s (map callOf (reverse ks)) in
+      one-more ks c t ∙ ap (λ (k : ℤ). rest +ℤ k) z ∙ +ℤ-idr rest
+
+  measured : {ks : List (Noted Answer)} → Accepted step view s ks → h (after step s ks .image) ≡ h (s .image) +ℤ total step f s (map callOf (reverse ks))
+  measured none = sym (+ℤ-idr (h (s .image)))
+  measured (operated {ks = ks} r e t k a v n) =
+      let x = after step s ks in
+      let d = f (x .image) r (step x (operation r e) .answer) in
+      let rest = total step f s (map callOf (reverse ks)) in
+      K .entered x r e (good step view Good L s start closed k) a v ∙ ap (λ (z : ℤ). z +ℤ d) (measured k)
+      ∙ +ℤ-assoc (h (s .image)) rest d ∙ ap (λ (z : ℤ). h (s .image) +ℤ z) (ap (λ (z : ℤ). rest +ℤ z) (sym (+ℤ-idr d)) ∙ sym (one-more ks (operation r e) t))
+  measured (begun {ks = ks} t k a n) =
+      ap h (L .begin-image _ (good step view Good L s start closed k) a) ∙ measured k ∙ ap (λ (z : ℤ). h (s .image) +ℤ z) (sym (none-more ks begin t refl))
+  measured (committed {ks = ks} t k a n) =
+      ap h (L .commit-image _ (good step view Good L s start closed k) a) ∙ measured k ∙ ap (λ (z : ℤ). h (s .image) +ℤ z) (sym (none-more ks commit t refl))
+  measured (rolledBack {ks = ks} b t k a m c n) =
+      ap (λ (x : State). h (x .image)) (L .begun-roll _ (good step view Good L s start closed k) a) ∙ measured k
+      ∙ ap (λ (z : ℤ). h (s .image) +ℤ z) (sym (none-more (note begin b ∷ ks) rollback t refl ∙ none-more ks begin b refl))
+
+  -- the measure of the image after any list of calls: that of the opening image, and what the kept operations add
+  pub sums : (cs : List Call) → h (run step s cs .image) ≡ h (s .image) +ℤ total step f s (kept step view s cs)
+  sums cs =
+      let done = all step view Good L s start closed cs [] s (none, refl) in
+      ap (λ (x : State). h (x .image)) (done .1) ∙ measured (done .0) ∙ ap (λ (l : List Call). h (s .image) +ℤ total step f s l) (kept-calls step view s s cs)

@@ -43,7 +43,7 @@ unfolding registerStep RegisterMatch
 register-history =
     record {
       all = λ s o cs.
-          same-as-kept 2 goodRegister registerOp registerView (record { as-long = long; keeps = keeps }) registerEnter RegisterMatch (record { moved = moved }) s o (getD (s .image) 0 0) refl cs;
+          same-as-kept 2 goodRegister registerOp registerView (record { as-long = long; keeps = keeps }) s o registerEnter RegisterMatch (record { moved = moved }) (getD (s .image) 0 0) refl cs;
     }
   where
     long : (x : List ℕ) → goodRegister x ≡ true → length x ≡ 16 * 2

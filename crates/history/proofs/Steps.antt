@@ -14,10 +14,10 @@ use Rattle.journal.proofs.Written.{sound}
 use Rattle.journal.proofs.States.{fresh, fresh-good, fresh-contents, zeros-good, zeros-contents, begun-open, begun-closed, committed-open, committed-closed, rolled-closed, undone-open, undone-closed, begun-rolled, entered-good, entered-undone, entered-rolled}
 use Rattle.journal.proofs.Dispatch.{step-operation, step-begin, step-commit, step-rollback, step-undo}
 use Rattle.journal.proofs.Refusals.{view-keeps, step-refused}
-use Rattle.history.specs.Owed.{OpLaws}
+use Rattle.history.specs.Owed.{GoodState, OpLaws}
 use Rattle.history.proofs.Kept.{ok, Laws}
 
-no-zero : {n : ℕ} {A : Type 0} → suc n ≡ 0 → A
+pub no-zero : {n : ℕ} {A : Type 0} → suc n ≡ 0 → A
 no-zero h = absurd (omega arith)
 
 -- ---- what an accepted operation that is no view did
@@ -41,9 +41,6 @@ did cells s d z =
     go true ea false eo f ef z = outside eo z refl
     go true ea true eo false ef z = no-zero z
     go true ea true eo true ef z = inside eo z ef refl
-
-abbrev pub GoodState : (cells : ℕ) → (List ℕ → Bool) → State → Type 0
-GoodState cells goodImage s = (goodImage (s .image) ≡ true) × (goodJournal cells (s .journal) ≡ true)
 
 module _ (cells : ℕ) (goodImage : List ℕ → Bool) (op : List ℕ → List ℕ → List ℕ → Done) (view : List ℕ → Bool) (H : OpLaws cells goodImage op) where
   abbrev St : State → Call → Step
@@ -82,7 +79,7 @@ module _ (cells : ℕ) (goodImage : List ℕ → Bool) (op : List ℕ → List �
       go false e = e
       go true e = no-zero (rw (begins s g, begun-open s e) at o)
 
-  pub begin-is : (s : State) → G s → ok St s begin → St s begin ≡ reply 0 [] (vault (s .image) (bytesOf (length (s .journal)) fresh))
+  begin-is : (s : State) → G s → ok St s begin → St s begin ≡ reply 0 [] (vault (s .image) (bytesOf (length (s .journal)) fresh))
   begin-is s g o = begins s g ∙ begun-closed s (begin-closed s g o)
 
   fresh-state : (s : State) → G s → G (vault (s .image) (bytesOf (length (s .journal)) fresh))
@@ -119,7 +116,7 @@ module _ (cells : ℕ) (goodImage : List ℕ → Bool) (op : List ℕ → List �
       go true e = e
       go false e = no-zero (rw (commits s g, committed-closed s e) at o)
 
-  pub commit-is : (s : State) → G s → ok St s commit → St s commit ≡ reply 0 [] (vault (s .image) (replicate (length (s .journal)) 0))
+  commit-is : (s : State) → G s → ok St s commit → St s commit ≡ reply 0 [] (vault (s .image) (replicate (length (s .journal)) 0))
   commit-is s g o = commits s g ∙ committed-open s (commit-open s g o)
 
   closed-state : (s : State) → G s → G (vault (s .image) (replicate (length (s .journal)) 0))
@@ -207,6 +204,8 @@ module _ (cells : ℕ) (goodImage : List ℕ → Bool) (op : List ℕ → List �
         op-good = op-good;
         begin-good = begin-good;
         commit-good = commit-good;
+        begin-image = λ s g o. ap (λ x. x .state .image) (begin-is s g o);
+        commit-image = λ s g o. ap (λ x. x .state .image) (commit-is s g o);
         commit-closes = commit-closes;
         closed-undo = closed-undo;
         closed-roll = closed-roll;

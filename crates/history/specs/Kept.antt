@@ -1,9 +1,10 @@
--- A run of calls, the kept list and the book, for any step of a vault; and what demand 3 says of them.
+-- A run of calls, the kept list, the book, and sums over a run, for any step of a vault; and what demand 3 says of them.
 use mathlib.Core.Path.{_≡_}
 use mathlib.Core.Bool.{Bool}
 use mathlib.Core.List.{List, [], _∷_, map, reverse}
 use Prim.Native.Nat.{ℕ}
 use lib.Dec.{eqb}
+use lib.IntN.{ℤ, pos, _+ℤ_}
 use Rattle.fields.specs.Rules.{pick}
 use Rattle.journal.specs.Calls.{Call, operation, begin, commit, rollback, undo, State, Answer, Step}
 
@@ -85,11 +86,23 @@ module _ {B : Type 0} (enter : B → List ℕ → Answer → B) where
   book b [] = b
   book b (x ∷ xs) = book (bookOne b x) xs
 
--- demand 3, of a vault that starts at s with the book b and gets the calls cs
-pub record SameAsKept (step : State → Call → Step) (view : List ℕ → Bool) {B : Type 0} (enter : B → List ℕ → Answer → B)
+-- a sum over a run: of each operation f is given the image before it, its record and its answer
+module _ (step : State → Call → Step) (f : List ℕ → List ℕ → Answer → ℤ) where
+  abbrev pub total : State → List Call → ℤ
+  total s [] = pos 0
+  total s (operation r e ∷ cs) = f (s .image) r (step s (operation r e) .answer) +ℤ total (step s (operation r e) .state) cs
+  total s (begin ∷ cs) = total (step s begin .state) cs
+  total s (commit ∷ cs) = total (step s commit .state) cs
+  total s (rollback ∷ cs) = total (step s rollback .state) cs
+  total s (undo ∷ cs) = total (step s undo .state) cs
+
+-- demand 3, of a vault that starts at s with the book b and gets the calls cs; Good says that neither 30 nor 31 is answered
+pub record SameAsKept (step : State → Call → Step) (view : List ℕ → Bool) (Good : State → Type 0) {B : Type 0} (enter : B → List ℕ → Answer → B)
     (Match : B → List ℕ → Type 0) (s : State) (b : B) (cs : List Call) : Type 0 where
   -- image and journal are byte for byte those of a second vault that gets only the kept list
   pub same : run step s cs ≡ run step s (kept step view s cs)
+  -- both are good
+  pub good : Good (run step s cs)
   -- each kept call has the same answer and event bytes at either vault: the kept part of the first vault's log is the kept list ..
   pub calls : map callOf (keptOf step view s (log step s cs)) ≡ kept step view s cs
   -- .. with the answers that the second vault gives

@@ -9,6 +9,7 @@ use Rattle.fields.specs.Rules.{pick}
 use Rattle.journal.specs.Calls.{Call, State, Answer, Step, Done}
 use Rattle.journal.specs.Step.{blank, step, Opening}
 use Rattle.history.specs.Kept.{SameAsKept}
+use Rattle.history.specs.Owed.{GoodState}
 
 unfoldable pub goodRegister : List ℕ → Bool
 goodRegister x = eqb (length x) 32
@@ -34,4 +35,4 @@ unfoldable pub RegisterMatch : ℕ → List ℕ → Type 0
 RegisterMatch b x = getD x 0 0 ≡ b
 
 pub record RegisterHistory : Type 0 where
-  pub all : (s : State) → Opening goodRegister s → (cs : List Call) → SameAsKept registerStep registerView registerEnter RegisterMatch s (getD (s .image) 0 0) cs
+  pub all : (s : State) → Opening goodRegister s → (cs : List Call) → SameAsKept registerStep registerView (GoodState 2 goodRegister) registerEnter RegisterMatch s (getD (s .image) 0 0) cs

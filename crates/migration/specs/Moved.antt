@@ -7,8 +7,10 @@ use native.Mathlib.Decide.{ℕ-discrete}
 use native.Mathlib.Omega.{arith}
 use borrow.Author.Tests.{eq-eqb, ne-eqb}
 use lib.Dec.{eqb}
-use Rattle.book.specs.Book.{Book, BookIs, change, net, migrates, vaultHolding, tollValue}
+use lib.IntN.{pos}
+use Rattle.book.specs.Book.{Book, BookIs, change, net, migrates}
 use Rattle.book.specs.Entries.{changed, settled}
+use Rattle.book.specs.Integers.{integerOf, integer-net, integer-bias}
 use Rattle.token.specs.Token.{vaultBalance, transferRules, transferOf, received, arrives}
 use Rattle.token.specs.Laws.{transfer-free, transfer-to, transfer-from, debited-from}
 use Rattle.storage.specs.Heads.{off, at-head, good-no-migration, flags-put}
@@ -68,10 +70,10 @@ module _ (l : List ℕ) (t to n : ℕ) (g : Good l) (toh : to < 64) (e : n ≡ h
       let r = transfer-from l t 1 to n (g .long) high (omega arith) toh (λ q. p (sym q)) (omega arith) in
       omega arith
 
-  moved-value : holding (transferOf l t 1 to n) (slot t) 1 - bias ≡ pick (eqb to 1) (n - toll l (slot t)) 0
+  moved-value : holding (transferOf l t 1 to n) (slot t) 1 ≡ bias + pick (eqb to 1) (n - toll l (slot t)) 0
   moved-value = go (ℕ-discrete to 1)
     where
-      go : Dec (to ≡ 1) → holding (transferOf l t 1 to n) (slot t) 1 - bias ≡ pick (eqb to 1) (n - toll l (slot t)) 0
+      go : Dec (to ≡ 1) → holding (transferOf l t 1 to n) (slot t) 1 ≡ bias + pick (eqb to 1) (n - toll l (slot t)) 0
       go (yes p) = let h = back p in rw (eq-eqb to 1 p) (omega arith)
       go (no p) = let h = away p in rw (ne-eqb to 1 p) (omega arith)
 
@@ -79,10 +81,14 @@ pick-none : (b : Bool) (x : ℕ) → x ≡ 0 → 0 ≡ pick b x 0
 pick-none true x e = sym e
 pick-none false x e = refl
 
+pick-pos : (b : Bool) (x : ℕ) → pos (pick b x 0) ≡ pick b (pos x) (pos 0)
+pick-pos true x = refl
+pick-pos false x = refl
+
 -- ---- 22
 module _ (l : List ℕ) (g : Good l) (i : initialised l ≡ 1) (o : hasMigration l ≡ 1) (z : migrateNumber l ≡ 0) where
   -- nothing where it is another's; what is left after the toll where it is the vault
-  migrated-value : holding (migrateHolding l) (slot (defaultToken l)) 1 - bias ≡ pick (eqb (destination l) 1) (vaultBalance l - toll l (slot (defaultToken l))) 0
+  migrated-value : holding (migrateHolding l) (slot (defaultToken l)) 1 ≡ bias + pick (eqb (destination l) 1) (vaultBalance l - toll l (slot (defaultToken l))) 0
   migrated-value =
       let k = g .tokens (slot (defaultToken l)) (omega (arith, default-range l g i)) .notBelow in
       by-lt bias (vaultBalance l) _
@@ -90,16 +96,15 @@ module _ (l : List ℕ) (g : Good l) (i : initialised l ≡ 1) (o : hasMigration
       let (n, m) = held-some l h in
       rw m (moved-value l (defaultToken l) (destination l) (vaultBalance l) g (g .fields i .destination) refl (transfer-free l (defaultToken l) 1 (destination l) (vaultBalance l) refl (sym n ∙ z))))
       (λ h.
-      let y : vaultBalance l - bias ≡ 0 = omega arith in
-      rw (held-none l h .1, y) (pick-none (eqb (destination l) 1) (vaultBalance l - toll l (slot (defaultToken l))) (omega arith)))
+      let y : vaultBalance l ≡ bias + 0 = omega (arith, held-range l g i) in
+      rw (held-none l h .1) (y ∙ ap (λ (k : ℕ). bias + k) (pick-none (eqb (destination l) 1) (vaultBalance l - toll l (slot (defaultToken l))) (omega arith))))
 
   pub migrate-booked : (b : Book) → BookIs b l → BookIs (migrates b) (migrateHolding l)
   unfolding migrates net
   migrate-booked b m =
       let (low, high) = default-range l g i in
       let t = defaultToken l in
-      let k = g .tokens (slot t) (omega arith) .notBelow in
-      let same : vaultBalance l - toll l (slot t) ≡ vaultHolding l (slot t) - tollValue l (slot t) = omega (arith, held-range l g i) in
-      subst (λ (a : ℕ). BookIs (change (λ h. pick (eqb (b .destination) 1) (net b a h) 0) a b) (migrateHolding l)) (sym (m .default))
-      (changed b m (migrate-moves l g i z) low high (λ h. pick (eqb (b .destination) 1) (net b t h) 0)
-      (rw (m .migrating o, m .tolled (slot t) (omega arith), ← same) migrated-value))
+      subst (λ (a : ℕ). BookIs (change (λ h. pick (eqb (b .destination) 1) (net b a h) (pos 0)) a b) (migrateHolding l)) (sym (m .default))
+      (changed b m (migrate-moves l g i z) low high (λ h. pick (eqb (b .destination) 1) (net b t h) (pos 0))
+      (rw (m .migrating o, m .tolled t low high, integer-net (vaultBalance l) (toll l (slot t)))
+      (ap integerOf migrated-value ∙ integer-bias _ ∙ pick-pos (eqb (destination l) 1) (vaultBalance l - toll l (slot t)))))

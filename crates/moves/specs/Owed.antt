@@ -9,6 +9,7 @@ use lib.Dec.{eqb}
 use Rattle.book.specs.Book.{Book, BookIs, adds, enterBook}
 use Rattle.book.specs.Entries.{added, still-booked, kind-booked, quietOperation, quiet}
 use Rattle.book.specs.Moves.{transfer-moves}
+use Rattle.book.specs.Integers.{integerOf}
 use Rattle.book.specs.Owed.{Owed}
 use Rattle.outcome.specs.FormedLaws.{caller-in, other-in}
 use Rattle.record.specs.Form.{member, readsCaller, readsOther}
@@ -16,7 +17,7 @@ use Rattle.record.specs.Record.{operationOf, callerOf, tokenOf, otherOf, flagOf
 use Rattle.token.specs.Token.{arrives, received, transferRules, transferOf}
 use Rattle.token.specs.Laws.{debited-other, transfer-to, transfer-other, good-transfer}
 use Rattle.storage.specs.Facts.{Good}
-use Rattle.storage.specs.Writes.{good-kind, holding-range}
+use Rattle.storage.specs.Writes.{good-kind}
 use Rattle.image.specs.Layout.{slot, holding}
 use Rattle.amount.specs.Biased.{bias}
 use Rattle.fields.specs.Logic.{_and_}
@@ -25,7 +26,7 @@ use Rattle.moves.specs.Outside.{outsideMoveOutcome, outsideMove, frozenK
 use Rattle.moves.specs.Laws.{outside-move-free, freeze-free}
 
 -- ---- 29
-enter-29 : (b : Book) (r e : List ℕ) → operationOf r ≡ 29 → enterBook b r e ≡ pick (eqb (otherOf r) 1) (adds (tokenOf r) (amountOf r - bias) b) b
+enter-29 : (b : Book) (r e : List ℕ) → operationOf r ≡ 29 → enterBook b r e ≡ pick (eqb (otherOf r) 1) (adds (tokenOf r) (integerOf (amountOf r)) b) b
 unfolding enterBook
 enter-29 b r e o = rw o
 
@@ -38,18 +39,15 @@ module _ (l : List ℕ) (from t to n : ℕ) (g : Good l) (fh : from < 64) (toh :
       let h = transfer-to l t from to n (g .long) high fh toh fits in
       rw q (rw (q, debited-other l t from n 1 (λ y. s (sym y))) at h)
 
-  outside-booked : (b : Book) → BookIs b l → BookIs (pick (eqb to 1) (adds t (n - bias) b) b) (transferOf l t from to n)
+  outside-booked : (b : Book) → BookIs b l → BookIs (pick (eqb to 1) (adds t (integerOf n) b) b) (transferOf l t from to n)
   unfolding arrives
   outside-booked b m = go (ℕ-discrete to 1)
     where
-      go : Dec (to ≡ 1) → BookIs (pick (eqb to 1) (adds t (n - bias) b) b) (transferOf l t from to n)
+      go : Dec (to ≡ 1) → BookIs (pick (eqb to 1) (adds t (integerOf n) b) b) (transferOf l t from to n)
       go (yes q) =
           let (low, (high, _)) = f in
           let v = transfer-moves l t from to n g fh toh (omega arith) f in
-          let h = holding-range l (slot t) 1 g (omega arith) (omega arith) .0 in
-          let k = g .tokens (slot t) (omega arith) .notBelow in
-          let a = arrived q in
-          rw (eq-eqb to 1 q) (added b m v low high (n - bias) (omega arith))
+          rw (eq-eqb to 1 q) (added b m v low high n (arrived q))
       go (no q) =
           let v = transfer-moves l t from to n g fh toh (omega arith) f in
           let e = transfer-other l t from to n 1 (λ y. s (sym y)) (λ y. q (sym y)) in

@@ -7,7 +7,8 @@ use native.Mathlib.Omega.{arith}
 use borrow.Author.Tests.{leb-true}
 use lib.Dec.{leb}
 use Rattle.book.specs.Moves.{Moves, moves-then, moves-none, transfer-moves, credit-moves, snapshot-moves, still-begun, still-kind}
-use Rattle.book.specs.Book.{Book, vaultHolding, takes, takesItems, BookIs}
+use Rattle.book.specs.Book.{Book, takes, takesItems, BookIs}
+use Rattle.book.specs.Integers.{integerOf}
 use Rattle.book.specs.Entries.{taken}
 use Rattle.record.specs.Record.{itemAmount}
 use Rattle.token.specs.Token.{transferOf}
@@ -40,17 +41,16 @@ module _ (l : List ℕ) (t seq to n : ℕ) (g : Good l) (i : initialised l ≡ 1
       subst (λ (k : ℕ). Moves t k l (payImage l t seq to n)) left (moves-then v s)
 
   -- the book's side of it
-  pub pay-taken : holding l (slot t) 1 + bias - n - bias ≡ vaultHolding l (slot t) - (n - bias)
+  pub pay-taken : holding l (slot t) 1 + bias - n + n ≡ holding l (slot t) 1 + bias
   pay-taken =
       let (low, (high, (moving, (enough, _)))) = pay-free l t to n refl z .0 in
-      let h = holding-range l (slot t) 1 g (omega arith) (omega arith) .0 in
       omega arith
 
 -- ---- payout by payout
 -- what the payouts take from the book's default token
 unfoldable pub takesAll : List Payout → Book → Book
 takesAll [] b = b
-takesAll (p ∷ ps) b = takesAll ps (takes (b .token) (p .amount - bias) b)
+takesAll (p ∷ ps) b = takesAll ps (takes (b .token) (integerOf (p .amount)) b)
 
 pub payouts-booked : (ps : List Payout) (t seq : ℕ) (l : List ℕ) (b : Book) → Good l → initialised l ≡ 1 → Payable ps → payoutsNumber ps t seq l ≡ 0 → t ≡ defaultToken l → BookIs b l
     → BookIs (takesAll ps b) (payoutsImage ps t seq l)
@@ -60,9 +60,9 @@ payouts-booked (p ∷ ps) t seq l b g i a z e is =
     let o = or-zero _ _ z in
     let (low, (high, _)) = pay-free l t (p .to) (p .amount) refl (o .0) .0 in
     let m = pay-moves l t seq (p .to) (p .amount) g i (a .0 .0) (a .0 .1) (o .0) in
-    let y = taken b is m low high (p .amount - bias) (pay-taken l t seq (p .to) (p .amount) g i (a .0 .0) (a .0 .1) (o .0)) in
-    payouts-booked ps t seq _ (takes (b .token) (p .amount - bias) b) (m .good) (still-begun m i) (a .1) (o .1) (e ∙ sym (m .token))
-    (subst (λ (k : ℕ). BookIs (takes k (p .amount - bias) b) (payImage l t seq (p .to) (p .amount))) (e ∙ sym (is .default)) y)
+    let y = taken b is m low high (p .amount) (pay-taken l t seq (p .to) (p .amount) g i (a .0 .0) (a .0 .1) (o .0)) in
+    payouts-booked ps t seq _ (takes (b .token) (integerOf (p .amount)) b) (m .good) (still-begun m i) (a .1) (o .1) (e ∙ sym (m .token))
+    (subst (λ (k : ℕ). BookIs (takes k (integerOf (p .amount)) b) (payImage l t seq (p .to) (p .amount))) (e ∙ sym (is .default)) y)
 
 pub payouts-good : (ps : List Payout) (t seq : ℕ) (l : List ℕ) → Good l → initialised l ≡ 1 → Payable ps → payoutsNumber ps t seq l ≡ 0 → Good (payoutsImage ps t seq l)
 unfolding payoutsNumber payoutsImage
@@ -75,7 +75,7 @@ payouts-good (p ∷ ps) t seq l g i a z =
 pub items-takesAll : (n i : ℕ) (r : List ℕ) (b : Book) → takesItems n i r b ≡ takesAll (items n i r) b
 unfolding takesItems takesAll items
 items-takesAll zero i r b = refl
-items-takesAll (suc n) i r b = items-takesAll n (suc i) r (takes (b .token) (itemAmount r i - bias) b)
+items-takesAll (suc n) i r b = items-takesAll n (suc i) r (takes (b .token) (integerOf (itemAmount r i)) b)
 
 -- ---- operations 5 and 6
 module _ (l : List ℕ) (caller signers seq : ℕ) (ps : List Payout) (g : Good l) (a : Addressed ps) (z : withdrawNumber l caller signers seq ps ≡ 0) where
@@ -125,9 +125,9 @@ module _ (l : List ℕ) (t caller signers seq to n : ℕ) (g : Good l) (who : ca
   pub token-good : Good (withdrawTokenImage l t caller seq to n)
   token-good = token-moves .good
 
-  pub token-booked : (b : Book) → BookIs b l → BookIs (takes t (n - bias) b) (withdrawTokenImage l t caller seq to n)
+  pub token-booked : (b : Book) → BookIs b l → BookIs (takes t (integerOf n) b) (withdrawTokenImage l t caller seq to n)
   token-booked b is =
       let (c, d) = token-parts l t caller signers to n z in
       let f = token-checks-passed l t caller signers n refl c in
       let above = f .above in
-      taken b is token-moves (f .low) (f .high) (n - bias) (pay-taken l t seq to n g (f .begun) th (omega arith) d)
+      taken b is token-moves (f .low) (f .high) n (pay-taken l t seq to n g (f .begun) th (omega arith) d)

@@ -1,14 +1,14 @@
 -- What the payouts owe to demand 3.
 use mathlib.Core.Path.{_≡_, refl}
 use mathlib.Core.List.{List}
-use Prim.Native.Nat.{ℕ, _-_, _<_}
+use Prim.Native.Nat.{ℕ, _<_}
 use Rattle.book.specs.Book.{Book, takes, takesItems, enterBook}
+use Rattle.book.specs.Integers.{integerOf}
 use Rattle.book.specs.Owed.{Owed}
 use Rattle.outcome.specs.Outcome.{Formed}
 use Rattle.outcome.specs.FormedLaws.{caller-in, other-in}
 use Rattle.record.specs.Form.{member, readsCaller, readsOther}
 use Rattle.record.specs.Record.{operationOf, callerOf, tokenOf, otherOf, itemCountOf, sequenceOf, signersOf, amountOf}
-use Rattle.amount.specs.Biased.{bias}
 use Rattle.payouts.specs.Moved.{takesAll, items-takesAll, withdraw-good, withdraw-booked, token-good, token-booked}
 use Rattle.payouts.specs.Token.{withdrawTokenOutcome, withdrawToken}
 use Rattle.payouts.specs.Laws.{batch-addressed}
@@ -24,7 +24,7 @@ module _ {r : List ℕ} where
   both-8 f = (caller-in f refl, other-in f refl)
 
 module _ (b : Book) (r e : List ℕ) where
-  enter-5 : operationOf r ≡ 5 → enterBook b r e ≡ takes (b .token) (amountOf r - bias) b
+  enter-5 : operationOf r ≡ 5 → enterBook b r e ≡ takes (b .token) (integerOf (amountOf r)) b
   unfolding enterBook
   enter-5 o = rw o
 
@@ -32,7 +32,7 @@ module _ (b : Book) (r e : List ℕ) where
   unfolding enterBook
   enter-6 o = rw o
 
-  enter-8 : operationOf r ≡ 8 → enterBook b r e ≡ takes (tokenOf r) (amountOf r - bias) b
+  enter-8 : operationOf r ≡ 8 → enterBook b r e ≡ takes (tokenOf r) (integerOf (amountOf r)) b
   unfolding enterBook
   enter-8 o = rw o
 

@@ -1,10 +1,17 @@
--- Demand 3 for this vault, as one statement over its step.
+-- Demand 3 for this vault, over its step: any list of calls, the book, and the customer's equation.
+use mathlib.Core.Path.{_≡_}
 use mathlib.Core.List.{List}
-use Prim.Native.Nat.{ℕ}
-use Rattle.history.specs.Kept.{SameAsKept}
-use Rattle.journal.specs.Calls.{Call, State, Answer}
+use Prim.Native.Nat.{ℕ, _≤_, _<_}
+use lib.IntN.{ℤ, pos, _+ℤ_, _-ℤ_}
+use Rattle.history.specs.Kept.{run, kept, total, SameAsKept}
+use Rattle.history.specs.Owed.{GoodState}
+use Rattle.journal.specs.Calls.{Call, operation, State, Answer}
 use Rattle.journal.specs.Step.{Opening}
-use Rattle.book.specs.Book.{Book, openBook, enterBook, BookIs}
+use Rattle.book.specs.Book.{Book, vaultHolding, tollValue, openBook, enterBook, BookIs}
+use Rattle.book.specs.Flows.{deposited, movedIn, paidOut, migrated}
+use Rattle.book.specs.Integers.{smaller}
+use Rattle.record.specs.Record.{operationOf}
+use Rattle.image.specs.Layout.{cells, defaultToken, destination}
 use Rattle.image.specs.Good.{goodImage}
 use Rattle.token_vault.specs.Vault.{view, vaultStep}
 
@@ -12,7 +19,32 @@ use Rattle.token_vault.specs.Vault.{view, vaultStep}
 abbrev pub enter : Book → List ℕ → Answer → Book
 enter b r a = enterBook b r (a .events)
 
+-- a sum over the kept list as the second vault runs it; f is given the image before an operation, its record and the events that it wrote
+abbrev pub keptSum : (List ℕ → List ℕ → List ℕ → ℤ) → State → List Call → ℤ
+keptSum f s cs = total vaultStep (λ x r a. f x r (a .events)) s (kept vaultStep view s cs)
+
+-- the customer's equation, of a vault that starts at s and gets the calls cs: for each token the holding after the list is the opening holding
+-- + kept deposits + kept outside moves in, both after toll, - kept payouts - kept executed migrations
+pub record Balances (s : State) (cs : List Call) : Type 0 where
+  pub balanced : (t : ℕ) → 48 ≤ t → t < 64
+      → vaultHolding (run vaultStep s cs .image) t
+      ≡ vaultHolding (s .image) t
+      +ℤ keptSum (λ x r e. deposited x r e t) s cs
+      +ℤ keptSum (λ x r e. movedIn x r t) s cs
+      -ℤ keptSum (λ x r e. paidOut x r t) s cs
+      -ℤ keptSum (λ x r e. migrated x r t) s cs
+
+-- an executed migration, operation 22 answered 0, of the default token d: to another address the whole holding goes;
+-- to the vault itself only the toll, at most the holding
+pub record Migrates (s : State) (r e : List ℕ) : Type 0 where
+  pub away : (destination (s .image) ≡ 1 → ⊥) → vaultHolding (vaultStep s (operation r e) .state .image) (defaultToken (s .image)) ≡ pos 0
+  pub home : destination (s .image) ≡ 1
+      → vaultHolding (vaultStep s (operation r e) .state .image) (defaultToken (s .image))
+      ≡ vaultHolding (s .image) (defaultToken (s .image)) -ℤ smaller (tollValue (s .image) (defaultToken (s .image))) (vaultHolding (s .image) (defaultToken (s .image)))
+
 -- from any good image and closed journal of any length, for any list of calls with any records and event buffers: image, journal, answers and event bytes are those of the second vault that
--- gets only the kept list, later calls too, and each number of the book is address 1's holding
+-- gets only the kept list, later calls too; image and journal are good; each number of the book is address 1's holding; and the customer's equation
 pub record Demand3 : Type 0 where
-  pub every : (s : State) → Opening goodImage s → (cs : List Call) → SameAsKept vaultStep view enter BookIs s (openBook (s .image)) cs
+  pub every : (s : State) → Opening goodImage s → (cs : List Call) → SameAsKept vaultStep view (GoodState cells goodImage) enter BookIs s (openBook (s .image)) cs
+  pub balance : (s : State) → Opening goodImage s → (cs : List Call) → Balances s cs
+  pub migration : (s : State) (r e : List ℕ) → operationOf r ≡ 22 → vaultStep s (operation r e) .answer .number ≡ 0 → Migrates s r e

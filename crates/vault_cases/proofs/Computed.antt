@@ -9,7 +9,7 @@ use Rattle.fields.specs.Rules.{verdict, chain, orElse}
 use Rattle.amount.specs.Biased.{bias, amountAt, putAmount}
 use Rattle.record.specs.Form.{member, readsCaller, readsToken, readsOther, readsFlag, readsItems, isView, itemsWithin, headExceeds, itemsExceed, formNumber}
 use Rattle.events.specs.Kinds.{operatorWithdrawLimitSetEvent}
-use Rattle.checks.specs.Checks.{flag, inSet, pausedNumber, signedNumber, initialisedNumber, notOwnerNumber, ownerNumber, insider, notInsiderNumber, sharedNumber, amountNumber, maxVaultDeposit, depositAmountNumber, approvedNumber, limitNumber, capNumber, fundsNumber}
+use Rattle.checks.specs.Checks.{flag, inSet, pausedNumber, signedNumber, initialisedNumber, notOwnerNumber, ownerNumber, insider, notInsiderNumber, sharedNumber, amountNumber, maxVaultDeposit, maxDepositNumber, depositAmountNumber, approvedNumber, limitNumber, capNumber, fundsNumber}
 use Rattle.image.specs.Layout.{credit}
 use Rattle.image.specs.Good.{tracked}
 use Rattle.fields.specs.Same.{sameBytes}
@@ -61,11 +61,11 @@ unfolding imageOf request requestOf depositOutcome depositChecks fundingNumber r
 deposits-901 z = record { formed = refl; number = refl }
 
 pub fee-9 : (z : List ℕ) → Accepts (paperBytes z) (depositsWithFee 10 9) 0 2
-unfolding imageOf request requestOf depositsWithFee depositWithFeeOutcome feeNumber grossNumber depositOutcome depositChecks fundingNumber receiveNumber expectedNumber absentNumber arrives debited received transferNumber transferOf recordBalance snapshotNumber outcomeOf formNumber headExceeds itemsExceed itemsWithin readsCaller readsToken readsOther readsFlag readsItems isView member view bytes flag inSet pausedNumber signedNumber initialisedNumber notOwnerNumber ownerNumber insider notInsiderNumber sharedNumber amountNumber maxVaultDeposit depositAmountNumber approvedNumber limitNumber capNumber fundsNumber verdict chain orElse all _and_ _or_ bias amountAt putAmount put le
+unfolding imageOf request requestOf depositsWithFee depositWithFeeOutcome feeNumber grossNumber maxDepositNumber depositOutcome depositChecks fundingNumber receiveNumber expectedNumber absentNumber arrives debited received transferNumber transferOf recordBalance snapshotNumber outcomeOf formNumber headExceeds itemsExceed itemsWithin readsCaller readsToken readsOther readsFlag readsItems isView member view bytes flag inSet pausedNumber signedNumber initialisedNumber notOwnerNumber ownerNumber insider notInsiderNumber sharedNumber amountNumber maxVaultDeposit depositAmountNumber approvedNumber limitNumber capNumber fundsNumber verdict chain orElse all _and_ _or_ bias amountAt putAmount put le
 fee-9 z = record { formed = refl; changes = refl; number = refl; value-is = refl; count-is = refl }
 
 pub fee-10 : (z : List ℕ) → Refuses (paperBytes z) (depositsWithFee 10 10) 3
-unfolding imageOf request requestOf depositsWithFee depositWithFeeOutcome feeNumber grossNumber depositOutcome depositChecks fundingNumber receiveNumber expectedNumber absentNumber arrives debited received transferNumber transferOf recordBalance snapshotNumber outcomeOf formNumber headExceeds itemsExceed itemsWithin readsCaller readsToken readsOther readsFlag readsItems isView member view bytes flag inSet pausedNumber signedNumber initialisedNumber notOwnerNumber ownerNumber insider notInsiderNumber sharedNumber amountNumber maxVaultDeposit depositAmountNumber approvedNumber limitNumber capNumber fundsNumber verdict chain orElse all _and_ _or_ bias amountAt putAmount put le
+unfolding imageOf request requestOf depositsWithFee depositWithFeeOutcome feeNumber grossNumber maxDepositNumber depositOutcome depositChecks fundingNumber receiveNumber expectedNumber absentNumber arrives debited received transferNumber transferOf recordBalance snapshotNumber outcomeOf formNumber headExceeds itemsExceed itemsWithin readsCaller readsToken readsOther readsFlag readsItems isView member view bytes flag inSet pausedNumber signedNumber initialisedNumber notOwnerNumber ownerNumber insider notInsiderNumber sharedNumber amountNumber maxVaultDeposit depositAmountNumber approvedNumber limitNumber capNumber fundsNumber verdict chain orElse all _and_ _or_ bias amountAt putAmount put le
 fee-10 z = record { formed = refl; number = refl }
 
 pub paused : (z : List ℕ) → Accepts (paperBytes z) (pauses) 0 1
@@ -73,7 +73,7 @@ unfolding imageOf request requestOf pauseOutcome pauseNumber alreadyPausedNumber
 paused z = record { formed = refl; changes = refl; number = refl; value-is = refl; count-is = refl }
 
 pub fee-10-paused : (z : List ℕ) → Refuses (outcomeOf (paperBytes z) pauses .image) (depositsWithFee 10 10) 3
-unfolding imageOf request requestOf pauseOutcome pauseNumber alreadyPausedNumber depositsWithFee depositWithFeeOutcome feeNumber grossNumber depositOutcome depositChecks fundingNumber receiveNumber expectedNumber absentNumber arrives debited received transferNumber transferOf recordBalance snapshotNumber outcomeOf formNumber headExceeds itemsExceed itemsWithin readsCaller readsToken readsOther readsFlag readsItems isView member view bytes flag inSet pausedNumber signedNumber initialisedNumber notOwnerNumber ownerNumber insider notInsiderNumber sharedNumber amountNumber maxVaultDeposit depositAmountNumber approvedNumber limitNumber capNumber fundsNumber verdict chain orElse all _and_ _or_ bias amountAt putAmount put le
+unfolding imageOf request requestOf pauseOutcome pauseNumber alreadyPausedNumber depositsWithFee depositWithFeeOutcome feeNumber grossNumber maxDepositNumber depositOutcome depositChecks fundingNumber receiveNumber expectedNumber absentNumber arrives debited received transferNumber transferOf recordBalance snapshotNumber outcomeOf formNumber headExceeds itemsExceed itemsWithin readsCaller readsToken readsOther readsFlag readsItems isView member view bytes flag inSet pausedNumber signedNumber initialisedNumber notOwnerNumber ownerNumber insider notInsiderNumber sharedNumber amountNumber maxVaultDeposit depositAmountNumber approvedNumber limitNumber capNumber fundsNumber verdict chain orElse all _and_ _or_ bias amountAt putAmount put le
 fee-10-paused z = record { formed = refl; number = refl }
 
 pub proposed : (z : List ℕ) → Accepts (paperBytes z) (proposes 3) 0 1

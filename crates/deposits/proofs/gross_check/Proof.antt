@@ -13,13 +13,13 @@ returns : tie.Need-returns
 unfolding grossNumber
 returns c = link-at _ 0 _ (omega arith) (c .before .fee-check .ensures)
 
-deposit-amount-check-requires : tie.Need-deposit-amount-check-requires
-deposit-amount-check-requires c κs = search needs
+max-deposit-check-requires : tie.Need-max-deposit-check-requires
+max-deposit-check-requires c κs = search needs
 
 returns-2 : tie.Need-returns-2
 unfolding grossNumber
-returns-2 c = ends-at _ 1 _ (omega arith) (c .deposit-amount-check .ensures)
+returns-2 c = ends-at _ 1 _ (omega arith) (c .max-deposit-check .ensures)
 
 pub gross-check-spec : {M : Type 1} → statement M
 gross-check-spec =
-    tie.close (tie.spec fee-check-requires returns deposit-amount-check-requires returns-2)
+    tie.close (tie.spec fee-check-requires returns max-deposit-check-requires returns-2)
