@@ -3,7 +3,8 @@
  * Every function answers for any bytes of any length: nothing is asked of what stands in a buffer or of how long it is, and no call traps or
  * keeps anything between calls. Each buffer is a pointer and its length in bytes; the caller owns it before, during and after the call.
  * What the compiler cannot see and the caller must keep to: each pointer is good for its length (a length of 0 allows any pointer that is not
- * null), no two buffers of one call overlap, and no other thread touches them during the call. A call needs less than 64 KiB of stack.
+ * null); no two buffers of one call overlap, value and event_count being two more of them; and no other thread touches them during the call. A
+ * call needs less than 64 KiB of stack. The library is for x86-64.
  *
  * Buffers: the image (36,832 bytes when good), the journal (24 times 1 + k bytes, k from 1 to 2,000; all zero is a closed one), the record
  * (448 bytes), the events (896 bytes). A buffer of another length or with other contents is refused by its number and left as it was.

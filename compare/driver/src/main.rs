@@ -4,12 +4,15 @@ mod compare;
 mod ffi;
 mod generate;
 mod mistake;
+mod program;
 mod random;
 mod scenario;
 mod situation;
+mod stream;
 mod sweep;
 mod table;
 mod vectors;
+mod wrong_program;
 
 use scenario::{Failure, Run};
 use std::panic::{catch_unwind, resume_unwind, AssertUnwindSafe};
@@ -24,16 +27,19 @@ struct Options {
     jobs: u64,
     scenario: Option<u64>,
     vectors: Option<PathBuf>,
+    program: bool,
     self_test: bool,
     partial: bool,
 }
 
-const USAGE: &str = "driver [--calls N] [--seed S] [--jobs J] [--scenario N] [--vectors FOLDER] [--self-test] [--partial]
+const USAGE: &str = "driver [--calls N] [--seed S] [--jobs J] [--scenario N] [--vectors FOLDER] [--program] [--self-test] [--partial]
   --calls N     at least so many calls (1000000)
   --seed S      the run's seed (1)
   --jobs J      so many threads (1)
   --scenario N  one scenario of the run alone
   --vectors F   write the vectors, made by the Rust side alone, to the folder F
+  --program     compare the lines of the program (VAULT_PROGRAM, or target/bin/token_vault_main) on streams of records;
+                then wrong programs on the same, each of which has to be found
   --self-test   plant mistakes in the Rust side's outcome; each has to be found
   --partial     a pair of document 01 that was not reached is no failure";
 
@@ -47,7 +53,8 @@ fn number(word: String) -> u64 {
 }
 
 fn options() -> Options {
-    let mut o = Options { calls: 1_000_000, seed: 1, jobs: 1, scenario: None, vectors: None, self_test: false, partial: false };
+    let mut o =
+        Options { calls: 1_000_000, seed: 1, jobs: 1, scenario: None, vectors: None, program: false, self_test: false, partial: false };
     let mut words = std::env::args().skip(1);
     while let Some(word) = words.next() {
         let mut next = || words.next().unwrap_or_else(|| usage());
@@ -57,6 +64,7 @@ fn options() -> Options {
             "--jobs" => o.jobs = number(next()).max(1),
             "--scenario" => o.scenario = Some(number(next())),
             "--vectors" => o.vectors = Some(next().into()),
+            "--program" => o.program = true,
             "--self-test" => o.self_test = true,
             "--partial" => o.partial = true,
             _ => usage(),
@@ -67,6 +75,9 @@ fn options() -> Options {
 
 fn main() {
     let o = options();
+    if o.program {
+        exit(if program::run(o.seed, o.partial) { 0 } else { 1 });
+    }
     if o.self_test {
         self_test(o.seed, o.calls);
         return;

@@ -36,10 +36,17 @@ pub fn operation(r: &mut Random, image: &[u8]) -> Call {
 
 /// In a list, so that much is kept.
 pub fn list_operation(r: &mut Random, image: &[u8]) -> Call {
+    Call::Operation { record: list_record(r, image), events: generate::events(r) }
+}
+
+pub fn list_record(r: &mut Random, image: &[u8]) -> Vec<u8> {
     let operation = generate::operation(r, image);
     let good = image.len() == model::image::LENGTH;
-    let record = if good && r.percent(60) { generate::likely_record(r, image, operation) } else { generate::record(r, image, operation) };
-    Call::Operation { record, events: generate::events(r) }
+    if good && r.percent(60) {
+        generate::likely_record(r, image, operation)
+    } else {
+        generate::record(r, image, operation)
+    }
 }
 
 impl Run {

@@ -1,5 +1,6 @@
 //! How often each operation gave each number, and which pairs of document 01 have to be reached.
 use model::vault::Call;
+use std::ops::RangeInclusive;
 
 pub const NUMBERS: usize = 38;
 const ROWS: usize = 35;
@@ -135,6 +136,17 @@ impl Table {
     pub fn unfinished(&self) -> Vec<u8> {
         let open = |row: &usize| wanted(*row).iter().any(|number| self.0[*row][*number] == 0);
         (1..=30).filter(open).map(|row| row as u8).collect()
+    }
+
+    /// How often the numbers of a range were given.
+    pub fn total(&self, numbers: RangeInclusive<usize>) -> u64 {
+        self.0.iter().flat_map(|counts| &counts[numbers.clone()]).sum()
+    }
+
+    /// The operations that were never done, or never refused by a rule of their own where they have one.
+    pub fn one_sided(&self) -> Vec<&'static str> {
+        let refused = |row: usize| own(row).is_empty() || own(row).iter().any(|number| self.0[row][*number] > 0);
+        (1..=30).filter(|row| self.0[*row][0] == 0 || !refused(*row)).map(|row| NAMES[row]).collect()
     }
 
     pub fn join(&mut self, other: &Table) {

@@ -215,12 +215,15 @@ fn write_call(bytes: &mut Vec<u8>, call: &Call) {
     bytes.extend(record);
 }
 
+/// The part of a line that the program prints too.
+pub fn answer_text(answer: &Answer) -> String {
+    format!("answer={} value={} events={}", answer.number, answer.value, answer.count)
+}
+
 fn line(answer: &Answer, vault: &Vault) -> String {
     format!(
-        "answer={} value={} events={} event_bytes={} image={} journal={}\n",
-        answer.number,
-        answer.value,
-        answer.count,
+        "{} event_bytes={} image={} journal={}\n",
+        answer_text(answer),
         sha256::hex(&answer.events),
         sha256::hex(&vault.image),
         sha256::hex(&vault.journal)

@@ -16,6 +16,21 @@ fn least() -> Amount {
     }
 }
 
+fn above_least() -> Amount {
+    Amount {
+        hi: -9223372036854775808,
+        lo: 1,
+    }
+}
+
+// One more carries into the greatest high half.
+fn before_greatest_high() -> Amount {
+    Amount {
+        hi: 9223372036854775806,
+        lo: 18446744073709551615,
+    }
+}
+
 fn minus_one() -> Amount {
     Amount {
         hi: -1,
@@ -58,6 +73,8 @@ fn sums() {
     show_sum(amount::checked_add(least(), most()));
     show_sum(amount::checked_add(minus_one(), amount::from_u64(1)));
     show_sum(amount::checked_add(amount::from_u64(18446744073709551615), amount::from_u64(1)));
+    show_sum(amount::checked_add(above_least(), minus_one()));
+    show_sum(amount::checked_add(before_greatest_high(), amount::from_u64(1)));
 }
 
 fn differences() {
@@ -74,6 +91,8 @@ fn negations() {
     show_sum(amount::checked_neg(most()));
     show_sum(amount::checked_neg(minus_one()));
     show_sum(amount::checked_neg(amount::zero()));
+    show_sum(amount::checked_neg(above_least()));
+    show_sum(amount::checked_neg(Amount { hi: 1, lo: 0 }));
 }
 
 fn orders() {

@@ -4,19 +4,23 @@ use mathlib.Core.Bool.{true}
 use mathlib.Core.List.{List, [], _∷_, _++_, append-assoc}
 use Prim.Native.Nat.{ℕ, zero, suc, _+_, _-_, _*_, _/_, _%_, _^_, _<_, _≤_}
 use native.Mathlib.Omega.{arith}
-use native.Mathlib.Nat.{pow-suc, add-mul, add-zero, lt-of-lt-of-le}
+use native.Mathlib.Nat.{pow-suc, add-zero, lt-of-lt-of-le}
 use native.Mathlib.Numerals.{add-one}
 use lib.Arith.{digits-lt}
 use lib.ListN.{length, getD, drop, set, length-set}
-use lib.Dec.{ltb}
+use lib.Dec.{T, ltb}
 use lib.Seq.{drop-cons, drop-length, drop-set-lt, getD-set-same}
-use lib.IntN.{subℕ}
+use lib.IntN.{ℤ, pos, negsuc, natAbs}
+use lib.Signed.{mag, nonNeg}
 use borrow.Author.Tests.{leb-true, lt-ltb, le-ltb}
 use mir.Syntax.{w64}
-use mir.Val.{SFits}
+use mir.Val.{Fits, SFits, toZ, ofZ}
+use mir.Facts.{toZ-ofZ}
 use Rattle.amount.specs.declared.Amount.{Amount}
-use Rattle.amount.specs.Biased.{bias, biasedHigh, biased}
-use Rattle.amount.specs.Laws.{subℕ-lt, subℕ-ge, bias-parts}
+use Rattle.amount.specs.declared.Sum.{Sum}
+use Rattle.amount.specs.declared.Sum.the-variants.{Value, Overflow}
+use Rattle.amount.specs.Biased.{bias, biasedHigh, biased, negOf, signOf}
+use Rattle.amount.specs.Laws.{by-lt, subℕ-lt, subℕ-ge, bias-parts, biased-low, biased-from, sign-below, sign-zero, sign-above, sum-biased, over-high}
 use Rattle.amount.specs.Value.{value, value-biased}
 use Rattle.answer_line.specs.Decimal.{decimal, signed, decimal-digit, decimal-more}
 use Rattle.answer_line.specs.Hexadecimal.{digit, hexadecimal}
@@ -104,56 +108,43 @@ none-left q h = omega arith
 pub digit-step : (n q d : ℕ) (w l : List ℕ) (i j : ℕ) → i + 1 ≡ j → i < length l → 10 * q + d ≡ n → d < 10 → 0 < q → w ≡ decimal n ++ drop j l → w ≡ decimal q ++ drop i (set l i (48 + d))
 digit-step n q d w l i j f h e b p k = k ∙ (digit-after n q d (drop j l) e b p ∙ ap (λ (t : List ℕ). decimal q ++ t) (sym (before l i j (48 + d) f h)))
 
--- ---- an amount's sign and magnitude
-multiple : (k : ℕ) → k * 2 ^ 64 + bias ≡ (k + 2 ^ 63) * 2 ^ 64
-multiple k = ap (λ (x : ℕ). k * 2 ^ 64 + x) bias-parts ∙ sym (add-mul k (2 ^ 63) (2 ^ 64))
+-- ---- an amount's sign and size
+pub not-negative : (n : ℕ) → (signOf n ≡ 0 → ⊥) → bias ≤ n
+not-negative n f = by-lt n bias (bias ≤ n) (λ h. absurd (f (sym (sign-below n h)))) (λ h. h)
 
-signed-from : (m b : ℕ) → signed (subℕ (m + b) b) ≡ decimal m
-unfolding signed
-signed-from m b = let e : m + b - b ≡ m = omega arith in rw (subℕ-ge (m + b) b (omega arith), e)
+pub negative : (n : ℕ) → signOf n ≡ 0 → n < bias
+negative n e =
+    by-lt n bias (n < bias) (λ h. h)
+    (λ h. by-lt bias n (n < bias) (λ g. absurd (omega (arith, sign-above n g))) (λ g. absurd (omega (arith, sign-zero n (omega arith)))))
 
-signed-below : (m n b : ℕ) → m + n ≡ b → 0 < m → signed (subℕ n b) ≡ 45 ∷ decimal m
-unfolding signed
-signed-below m n b h p = let e : suc (b - suc n) ≡ m = omega arith in rw (subℕ-lt n b (omega arith), e)
+-- the high half of an amount that is not negative, cast to an unsigned number
+pub size : (a : Amount) → SFits w64 (a .hi) → a .lo < 2 ^ 64 → bias ≤ biased a → (T (nonNeg (toZ w64 (ofZ w64 (a .hi)))) × Fits w64 (natAbs (toZ w64 (ofZ w64 (a .hi))))) × (natAbs (toZ w64 (ofZ w64 (a .hi))) * 2 ^ 64 + a .lo + bias ≡ biased a)
+unfolding biasedHigh
+size a f b h = rw (toZ-ofZ f) (go (a .hi) (a .lo) (f .sfits) b h)
+  where
+    go : (z : ℤ) (lo : ℕ) → mag z < 2 ^ 63 → lo < 2 ^ 64 → bias ≤ biased (record { hi = z; lo = lo }) → (T (nonNeg z) × Fits w64 (natAbs z)) × (natAbs z * 2 ^ 64 + lo + bias ≡ biased (record { hi = z; lo = lo }))
+    go (pos n) lo f b h = ((tt, record { fits = omega arith }), omega (arith, biased-from (record { hi = pos n; lo = lo }) n refl))
+    go (negsuc n) lo f b h = absurd (omega (arith, biased-low (record { hi = negsuc n; lo = lo }) (omega arith) b))
 
-middle : (x b l : ℕ) → x + b + l ≡ x + l + b
-middle x b l = omega arith
+module _ (a : Amount) (f : SFits w64 (a .hi)) where
+  pub from-zero : (m : ℕ) → m + bias ≡ biased a → signed (value a) ≡ decimal m
+  unfolding signed
+  from-zero m e = let g : biased a - bias ≡ m = omega arith in rw (value-biased a f, subℕ-ge (biased a) bias (omega arith), g)
 
-filled : (x c y w l b : ℕ) → x + c + y ≡ b → w + l ≡ c → x + w + (y + l) ≡ b
-filled x c y w l b h g = omega arith
+  below-zero : (m : ℕ) → m + biased a ≡ bias → 0 < m → signed (value a) ≡ 45 ∷ decimal m
+  unfolding signed
+  below-zero m e h = let g : suc (bias - suc (biased a)) ≡ m = omega arith in rw (value-biased a f, subℕ-lt (biased a) bias (omega arith), g)
 
-next : (k : ℕ) → k * 2 ^ 64 + 2 ^ 64 ≡ (k + 1) * 2 ^ 64
-next k = sym (add-mul k 1 (2 ^ 64))
+  -- by the answer of `checked_neg`
+  module _ {s : Sum} (z : biased a < bias) (p : s ≡ negOf (biased a)) where
+    pub negative-from : {n : Amount} → s ≡ Value n → bias ≤ biased n
+    negative-from q = omega (arith, sum-biased _ p q)
 
-positive : (x w : ℕ) → 0 < w → 0 < x + w
-positive x w h = omega arith
+    pub below-by : {n : Amount} → s ≡ Value n → (m : ℕ) → m + bias ≡ biased n → signed (value a) ≡ 45 ∷ decimal m
+    below-by q m e = let g = sum-biased _ p q in below-zero m (omega arith) (omega arith)
 
-module _ (a : Amount) (f : SFits w64 (a .hi)) (h : ℕ) (e : h ≡ biasedHigh (a .hi)) where
-  is-biased : biased a ≡ h * 2 ^ 64 + a .lo
-  unfolding biased
-  is-biased = rw e
-
-  by-number : value a ≡ subℕ (h * 2 ^ 64 + a .lo) bias
-  by-number = value-biased a f ∙ ap (λ (n : ℕ). subℕ n bias) is-biased
-
-  pub at-least-zero : 2 ^ 63 ≤ h → signed (value a) ≡ decimal ((h - 2 ^ 63) * 2 ^ 64 + a .lo)
-  at-least-zero p =
-      let u : h - 2 ^ 63 + 2 ^ 63 ≡ h = omega arith in
-      let s : h * 2 ^ 64 ≡ (h - 2 ^ 63) * 2 ^ 64 + bias = sym (multiple (h - 2 ^ 63) ∙ ap (λ (x : ℕ). x * 2 ^ 64) u) in
-      ap signed (by-number ∙ ap (λ (x : ℕ). subℕ (x + a .lo) bias) s ∙ ap (λ (x : ℕ). subℕ x bias) (middle ((h - 2 ^ 63) * 2 ^ 64) bias (a .lo)))
-      ∙ signed-from ((h - 2 ^ 63) * 2 ^ 64 + a .lo) bias
-
-  pub below-zero : (k w : ℕ) → k + 1 + h ≡ 2 ^ 63 → w + a .lo ≡ 2 ^ 64 → 0 < w → signed (value a) ≡ 45 ∷ decimal (k * 2 ^ 64 + w)
-  below-zero k w p q r =
-      let s : k * 2 ^ 64 + 2 ^ 64 + h * 2 ^ 64 ≡ bias = ap (λ (x : ℕ). x + h * 2 ^ 64) (next k) ∙ (sym (add-mul (k + 1) h (2 ^ 64)) ∙ (ap (λ (x : ℕ). x * 2 ^ 64) p ∙ sym bias-parts)) in
-      ap signed by-number
-      ∙ signed-below (k * 2 ^ 64 + w) (h * 2 ^ 64 + a .lo) bias (filled (k * 2 ^ 64) (2 ^ 64) (h * 2 ^ 64) w (a .lo) bias s q) (positive (k * 2 ^ 64) w r)
-
-  pub below-zero-whole : h < 2 ^ 63 → a .lo ≡ 0 → signed (value a) ≡ 45 ∷ decimal ((2 ^ 63 - h) * 2 ^ 64 + 0)
-  below-zero-whole p q =
-      let u : 2 ^ 63 - 1 - h + 1 ≡ 2 ^ 63 - h = omega arith in
-      below-zero (2 ^ 63 - 1 - h) (2 ^ 64) (omega arith) (omega arith) (omega arith)
-      ∙ ap (λ (x : ℕ). 45 ∷ decimal x) (next (2 ^ 63 - 1 - h) ∙ (ap (λ (x : ℕ). x * 2 ^ 64) u ∙ sym (add-zero ((2 ^ 63 - h) * 2 ^ 64))))
+    pub below-least : s ≡ Overflow → signed (value a) ≡ 45 ∷ decimal (2 ^ 63 * 2 ^ 64 + 0)
+    below-least q = let g = over-high _ p q (omega arith) in below-zero bias (omega arith) (omega arith) ∙ ap (λ (x : ℕ). 45 ∷ decimal x) (bias-parts ∙ sym (add-zero (2 ^ 63 * 2 ^ 64)))
 
 -- ---- the line
 pub drop-all : (l : List ℕ) (n : ℕ) → length l ≡ n → drop n l ≡ []

@@ -68,7 +68,7 @@ pub decimal-more : (n : ℕ) → 10 ≤ n → decimal n ≡ decimal (n / 10) ++ 
 unfolding decimal
 decimal-more n h = digits-last n (n / 10) (n % 10) (omega arith) (omega arith)
 
--- worked examples: 0, 2 ^ 127, -1, and the line of document 01
+-- worked examples: 0, 2 ^ 127, -1
 none : decimal 0 ≡ 48 ∷ []
 unfolding decimal digitsIn
 none = refl

@@ -1,5 +1,6 @@
 // The line that is printed for an answer, and bytes in hexadecimal digits. Text is written from the end of a buffer towards its start: each function puts its bytes before index `at`, and returns where they begin.
 use amount::Amount;
+use amount::Sum;
 ghost use mathlib.Core.Path.{_≡_};
 ghost use mathlib.Core.List.{_∷_, _++_};
 ghost use Prim.Native.Nat.{_+_, _*_, _^_, _<_, _≤_};
@@ -8,8 +9,6 @@ ghost use lib.ListN.{length, drop};
 ghost use Rattle.amount.specs.Value.{value};
 ghost use Rattle.answer_line.specs.Decimal.{decimal, signed, answerWords, line};
 ghost use Rattle.answer_line.specs.Hexadecimal.{digit, hexadecimal};
-
-const HALF: u64 = 9223372036854775808;
 
 // A tenth of a number of 128 bits, and the digit that is left.
 struct Quotient {
@@ -83,24 +82,18 @@ fn write_negative(out: &mut [u8], at: usize, hi: u64, lo: u64) -> usize
     s
 }
 
+// The least value has no negative. Its size is 2 ^ 127, a high half of 2 ^ 63.
 fn write_signed(out: &mut [u8], at: usize, v: Amount) -> usize
     requires { ⌜ (40 ≤ at) × (at ≤ length (now out)) ⌝ }
     ensures { λ r. ⌜ (drop r (now (out .exit)) ≡ signed (value v) ++ drop at (now (out .entry))) × (r ≤ at) × (at ≤ r + 40) ⌝ }
 {
-    let h = amount::biased_high(v);
-    let lo = v.lo;
-    if HALF <= h {
-        return write_decimal(out, at, h - HALF, lo);
+    if amount::sign(v) != 0 {
+        return write_decimal(out, at, v.hi as u64, v.lo);
     }
-    if lo == 0 {
-        return write_negative(out, at, HALF - h, 0);
+    match amount::checked_neg(v) {
+        Sum::Value(n) => write_negative(out, at, n.hi as u64, n.lo),
+        Sum::Overflow => write_negative(out, at, 9223372036854775808, 0),
     }
-    write_negative(
-        out,
-        at,
-        9223372036854775807 - h,
-        18446744073709551615 - lo + 1,
-    )
 }
 
 // A line without its end: at most 140 bytes.

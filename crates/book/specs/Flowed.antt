@@ -1,5 +1,5 @@
 -- The book after one operation, from the opening: the number of a token is the holding and what the operation adds to it.
-use mathlib.Core.Path.{_≡_, refl, sym, ap, _∙_, subst}
+use mathlib.Core.Path.{_≡_, refl, sym, ap, _∙_}
 use mathlib.Core.Bool.{Bool, true, false}
 use mathlib.Core.List.{List, [], _∷_}
 use Prim.Native.Nat.{ℕ, zero, suc}
@@ -125,20 +125,43 @@ module _ (x r e : List ℕ) (t : ℕ) where
   pub flows : Flows
   unfolding enterBook openBook change net migrates deposited movedIn paidOut migrated
   flows =
-      by-number (operationOf r) (1 ∷ 2 ∷ 3 ∷ 4 ∷ 5 ∷ 6 ∷ 7 ∷ 8 ∷ 9 ∷ 21 ∷ 22 ∷ 29 ∷ []) Flows
-      ((λ p. rw p (sym (+ℤ-idr h))),
-      ((λ p. rw p (arrived default amount ∙ by-deposit h _)),
-      ((λ p. rw p (arrived default (amount -ℤ integerOf (feeOf r)) ∙ by-deposit h _)),
-      ((λ p. rw p (items-brought (itemCountOf r) 0 r (openBook x) t ∙ by-deposit h _)),
-      ((λ p. rw p (left default amount ∙ by-payout h (ofToken default t amount))),
-      ((λ p. rw p (items-taken (itemCountOf r) 0 r (openBook x) t ∙ by-payout h (ofToken default t (itemsAmount (itemCountOf r) 0 r)))),
-      ((λ p. rw p (arrived (tokenOf r) amount ∙ by-deposit h _)),
-      ((λ p. rw p (left (tokenOf r) amount ∙ by-payout h (ofToken (tokenOf r) t amount))),
-      ((λ p. rw p (unless (eqb (getD e 0 0) 17) default amount ∙ by-deposit h _)),
-      ((λ p. rw p (sym (+ℤ-idr h))),
-      ((λ p. rw p (migration-taken x t default ∙ by-migration h (ofToken default t (migrationTakes x default)))),
-      ((λ p. rw p (where-to (eqb (otherOf r) 1) (tokenOf r) amount ∙ by-move h _)),
-      tt))))))))))))
+      by-number (operationOf r) (1 ∷ 2 ∷ 3 ∷ 4 ∷ 5 ∷ 6 ∷ 7 ∷ 8 ∷ 9 ∷ 21 ∷ 22 ∷ 29 ∷ []) Flows (
+        (λ p. rw p (sym (+ℤ-idr h))),
+        (
+          (λ p. rw p (arrived default amount ∙ by-deposit h _)),
+          (
+            (λ p. rw p (arrived default (amount -ℤ integerOf (feeOf r)) ∙ by-deposit h _)),
+            (
+              (λ p. rw p (items-brought (itemCountOf r) 0 r (openBook x) t ∙ by-deposit h _)),
+              (
+                (λ p. rw p (left default amount ∙ by-payout h (ofToken default t amount))),
+                (
+                  (λ p. rw p (items-taken (itemCountOf r) 0 r (openBook x) t ∙ by-payout h (ofToken default t (itemsAmount (itemCountOf r) 0 r)))),
+                  (
+                    (λ p. rw p (arrived (tokenOf r) amount ∙ by-deposit h _)),
+                    (
+                      (λ p. rw p (left (tokenOf r) amount ∙ by-payout h (ofToken (tokenOf r) t amount))),
+                      (
+                        (λ p. rw p (unless (eqb (getD e 0 0) 17) default amount ∙ by-deposit h _)),
+                        (
+                          (λ p. rw p (sym (+ℤ-idr h))),
+                          (
+                            (λ p. rw p (migration-taken x t default ∙ by-migration h (ofToken default t (migrationTakes x default)))),
+                            (
+                              (λ p. rw p (where-to (eqb (otherOf r) 1) (tokenOf r) amount ∙ by-move h _)),
+                              tt,
+                            ),
+                          ),
+                        ),
+                      ),
+                    ),
+                  ),
+                ),
+              ),
+            ),
+          ),
+        ),
+      )
       (λ q. rw (q .0, q .1 .0, q .1 .1 .0, q .1 .1 .1 .0, q .1 .1 .1 .1 .0, q .1 .1 .1 .1 .1 .0, q .1 .1 .1 .1 .1 .1 .0, q .1 .1 .1 .1 .1 .1 .1 .0, q .1 .1 .1 .1 .1 .1 .1 .1 .0, q .1 .1 .1 .1 .1 .1 .1 .1 .1 .0, q .1 .1 .1 .1 .1 .1 .1 .1 .1 .1 .0, q .1 .1 .1 .1 .1 .1 .1 .1 .1 .1 .1 .0) (sym (+ℤ-idr h)))
     where
       h : ℤ

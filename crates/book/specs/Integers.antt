@@ -1,15 +1,14 @@
 -- Amounts as integers: what the number of an amount stands for, differences that stay at 0, and the smaller of two.
-use mathlib.Core.Path.{_≡_, refl, sym, ap, ap₂, _∙_}
-use Prim.Native.Nat.{ℕ, zero, suc, _+_, _-_, _≤_}
+use mathlib.Core.Path.{_≡_, sym, ap, _∙_}
+use Prim.Native.Nat.{ℕ, _+_, _-_, _≤_}
 use native.Mathlib.Omega.{arith}
-use native.Mathlib.Nat.{add-comm, add-zero}
+use native.Mathlib.Nat.{add-zero}
 use lib.Dec.{ltb}
 use borrow.Author.Tests.{lt-ltb, le-ltb}
-use lib.IntN.{ℤ, pos, negsuc, subℕ, _+ℤ_, _-ℤ_, +ℤ-invr, +ℤ-negℤ-cancel}
+use lib.IntN.{ℤ, pos, negsuc, subℕ, _+ℤ_, _-ℤ_, +ℤ-invr}
 use lib.Signed.{ltZ}
 use Rattle.amount.specs.Biased.{bias}
-use Rattle.amount.specs.Laws.{subℕ-lt, subℕ-ge, by-lt}
-use Rattle.amount.specs.Value.{sub-shift, sub-add, sub-lt}
+use Rattle.amount.specs.Halves.{subℕ-lt, subℕ-ge, by-lt, sub-same, sub-add, sub-sub, sub-lt}
 use Rattle.fields.specs.Rules.{pick}
 
 -- the integer of an amount's number: the number less bias
@@ -28,10 +27,6 @@ smaller a b = pick (ltZ a b) a b
 integer-zero : (d : ℕ) → subℕ d 0 ≡ pos d
 integer-zero d = subℕ-ge d 0 (omega arith) ∙ ap pos (omega arith)
 
--- a difference, from a sum
-pub minus-from : (x y z : ℤ) → x +ℤ y ≡ z → z -ℤ y ≡ x
-minus-from x y z e = sym (ap (λ (k : ℤ). k -ℤ y) e) ∙ +ℤ-negℤ-cancel x y
-
 pub integer-more : (h d : ℕ) → integerOf (h + d) ≡ integerOf h +ℤ pos d
 unfolding integerOf
 integer-more h d = sym (ap (λ (k : ℤ). subℕ h bias +ℤ k) (sym (integer-zero d)) ∙ sub-add h bias d 0 ∙ ap (subℕ (h + d)) (add-zero bias))
@@ -46,7 +41,7 @@ integer-bias d = over bias d
 -- the difference of two amounts' integers is that of their numbers
 pub integer-difference : (a b : ℕ) → integerOf a -ℤ integerOf b ≡ subℕ a b
 unfolding integerOf
-integer-difference a b = minus-from (subℕ a b) (subℕ b bias) (subℕ a bias) (sub-add a b b bias ∙ ap (subℕ (a + b)) (add-comm b bias) ∙ sub-shift a bias b)
+integer-difference a b = sub-sub a bias b bias ∙ sub-same (a + bias) (bias + b) a b (omega arith)
 
 -- never below 0: the naturals' difference of the numbers
 pub integer-net : (a b : ℕ) → notBelowZero (integerOf a -ℤ integerOf b) ≡ pos (a - b)
@@ -56,7 +51,7 @@ integer-net a b = ap notBelowZero (integer-difference a b) ∙ by-lt a b (notBel
 pub integer-less : (old n new : ℕ) → new + n ≡ old + bias → integerOf new ≡ integerOf old -ℤ integerOf n
 unfolding integerOf
 integer-less old n new e =
-    sym (minus-from (subℕ new bias) (subℕ n bias) (subℕ old bias) (sub-add new bias n bias ∙ ap (λ (k : ℕ). subℕ k (bias + bias)) e ∙ sub-shift old bias bias))
+    sym (sub-sub old bias n bias ∙ sub-same (old + bias) (bias + n) new bias (omega arith))
 
 -- what a toll leaves of an amount, and what it takes: the smaller of toll and amount
 pub integer-left : (a b : ℕ) → notBelowZero (integerOf a -ℤ integerOf b) ≡ integerOf a -ℤ smaller (integerOf b) (integerOf a)

@@ -52,9 +52,16 @@ initialisedRules l = when (ne (flag initialisedBit l) 1) 1 ∷ []
 unfoldable pub initialisedNumber : List ℕ → ℕ
 initialisedNumber l = verdict (initialisedRules l)
 
+-- 3: caller not owner
+abbrev pub ownerRoleRules : List ℕ → ℕ → List Rule
+ownerRoleRules l caller = when (ne (owner l) caller) 3 ∷ []
+
+unfoldable pub ownerRoleNumber : List ℕ → ℕ → ℕ
+ownerRoleNumber l caller = verdict (ownerRoleRules l caller)
+
 -- the owner gate: 1 not initialised, 3 caller not owner; 22 caller not in signer set
 abbrev pub ownerRules : List ℕ → ℕ → List Rule
-ownerRules l caller = when (ne (flag initialisedBit l) 1) 1 ∷ when (ne (owner l) caller) 3 ∷ []
+ownerRules l caller = when (ne (flag initialisedBit l) 1) 1 ∷ ownerRoleRules l caller
 
 unfoldable pub notOwnerNumber : List ℕ → ℕ → ℕ
 notOwnerNumber l caller = verdict (ownerRules l caller)
@@ -71,9 +78,16 @@ insider l a =
     ∷ when (eq (operator l) a) 1
     ∷ [])
 
--- the shared gate: the same, operator also let in
+-- 3: caller neither owner nor operator
+abbrev pub insiderRoleRules : List ℕ → ℕ → List Rule
+insiderRoleRules l caller = when (ne (insider l caller) 1) 3 ∷ []
+
+unfoldable pub insiderRoleNumber : List ℕ → ℕ → ℕ
+insiderRoleNumber l caller = verdict (insiderRoleRules l caller)
+
+-- the shared gate: 1, 3, 22, operator also let in
 abbrev pub insiderRules : List ℕ → ℕ → List Rule
-insiderRules l caller = when (ne (flag initialisedBit l) 1) 1 ∷ when (ne (insider l caller) 1) 3 ∷ []
+insiderRules l caller = when (ne (flag initialisedBit l) 1) 1 ∷ insiderRoleRules l caller
 
 unfoldable pub notInsiderNumber : List ℕ → ℕ → ℕ
 notInsiderNumber l caller = verdict (insiderRules l caller)
@@ -88,7 +102,7 @@ amountRules n = when (leq n bias) 4 ∷ []
 unfoldable pub amountNumber : ℕ → ℕ
 amountNumber n = verdict (amountRules n)
 
--- 4: not above 0; 5: above 10 ^ 30
+-- 5: above 10 ^ 30
 unfoldable pub maxVaultDeposit : ℕ
 maxVaultDeposit = 10 ^ 30
 
@@ -98,6 +112,7 @@ maxDepositRules n = when (lt (bias + maxVaultDeposit) n) 5 ∷ []
 unfoldable pub maxDepositNumber : ℕ → ℕ
 maxDepositNumber n = verdict (maxDepositRules n)
 
+-- 4: not above 0; 5
 abbrev pub depositAmountRules : ℕ → List Rule
 depositAmountRules n = when (leq n bias) 4 ∷ maxDepositRules n
 

@@ -2,28 +2,15 @@
 use mathlib.Core.Path.{_≡_, refl, sym, _∙_}
 use mathlib.Core.List.{List}
 use Prim.Native.Nat.{ℕ}
-use lib.ListN.{set}
 use Rattle.image.specs.Layout.{bit, flags, owner, initialised}
 use Rattle.fields.specs.Rules.{AllFail, free, unlinked}
-use Rattle.checks.specs.Checks.{flag, initialisedBit, inSet, pausedRules, pausedNumber, signedRules, signedNumber, initialisedRules, initialisedNumber, ownerRules, notOwnerNumber, ownerNumber, insiderRules, notInsiderNumber, sharedNumber, amountRules, amountNumber, depositAmountRules, depositAmountNumber, approvedRules, approvedNumber, limitRules, limitNumber, fundsRules, fundsNumber}
+use Rattle.checks.specs.Checks.{flag, initialisedBit, initialisedRules, initialisedNumber, ownerRules, notOwnerNumber, ownerNumber, insiderRules, notInsiderNumber, sharedNumber, amountRules, amountNumber, depositAmountRules, depositAmountNumber, limitRules, limitNumber}
 
 pub flag-is : (k : ℕ) (l : List ℕ) → flag k l ≡ bit (flags l) k
 unfolding flag
 flag-is k l = refl
 
-pub inSet-is : (set a : ℕ) → inSet set a ≡ bit set a
-unfolding inSet
-inSet-is set a = refl
-
 module _ {k : ℕ} where
-  pub paused-free : (l : List ℕ) → k ≡ pausedNumber l → k ≡ 0 → AllFail (pausedRules l)
-  unfolding pausedNumber
-  paused-free l e z = free (pausedRules l) refl e z
-
-  pub signed-free : (signers a : ℕ) → k ≡ signedNumber signers a → k ≡ 0 → AllFail (signedRules signers a)
-  unfolding signedNumber
-  signed-free signers a e z = free (signedRules signers a) refl e z
-
   pub initialised-free : (l : List ℕ) → k ≡ initialisedNumber l → k ≡ 0 → initialised l ≡ 1
   unfolding initialisedNumber
   initialised-free l e z = sym (flag-is initialisedBit l) ∙ free (initialisedRules l) refl e z .0
@@ -44,17 +31,9 @@ module _ {k : ℕ} where
   unfolding depositAmountNumber
   deposit-amount-free n e z = free (depositAmountRules n) refl e z
 
-  pub approved-free : (l : List ℕ) (t : ℕ) → k ≡ approvedNumber l t → k ≡ 0 → AllFail (approvedRules l t)
-  unfolding approvedNumber
-  approved-free l t e z = free (approvedRules l t) refl e z
-
   pub limit-free : (h n limit : ℕ) → k ≡ limitNumber h n limit → k ≡ 0 → AllFail (limitRules h n limit)
   unfolding limitNumber
   limit-free h n limit e z = free (limitRules h n limit) refl e z
-
-  pub funds-free : (h sum : ℕ) → k ≡ fundsNumber h sum → k ≡ 0 → AllFail (fundsRules h sum)
-  unfolding fundsNumber
-  funds-free h sum e z = free (fundsRules h sum) refl e z
 
 -- the owner gate passed
 pub owner-free : {k : ℕ} (l : List ℕ) (caller signers : ℕ) → k ≡ ownerNumber l caller signers → k ≡ 0 → (initialised l ≡ 1) × (owner l ≡ caller)

@@ -5,7 +5,7 @@ ghost use Prim.Native.Nat.{_+_, _<_, _≤_};
 ghost use lib.ListN.{length};
 ghost use Rattle.amount.specs.Biased.{bias, biased};
 ghost use Rattle.image.specs.Layout.{imageLength};
-ghost use Rattle.checks.specs.Checks.{maxVaultDeposit, flag, inSet, insider, pausedNumber, signedNumber, initialisedNumber, notOwnerNumber, ownerNumber, notInsiderNumber, sharedNumber, amountNumber, maxDepositNumber, depositAmountNumber, approvedNumber, limitNumber, capNumber, fundsNumber};
+ghost use Rattle.checks.specs.Checks.{maxVaultDeposit, flag, inSet, insider, pausedNumber, signedNumber, initialisedNumber, ownerRoleNumber, notOwnerNumber, ownerNumber, insiderRoleNumber, notInsiderNumber, sharedNumber, amountNumber, maxDepositNumber, depositAmountNumber, approvedNumber, limitNumber, capNumber, fundsNumber};
 
 // Bit k of the flags.
 pub fn flag_of(img: &[u8], k: u16) -> u16
@@ -56,18 +56,26 @@ pub fn initialised_check(img: &[u8]) -> u8
     0
 }
 
+// 3.
+pub fn owner_role_check(img: &[u8], caller: u8) -> u8
+    requires { ⌜ length (now img) ≡ imageLength ⌝ }
+    ensures { λ r. ⌜ r ≡ ownerRoleNumber (now (img .entry)) caller ⌝ }
+{
+    if fields::get8(img, 2) != caller {
+        return 3;
+    }
+    0
+}
+
 // 1, 3.
-pub fn owner_check(img: &[u8], caller: u8) -> u8
+fn owner_check(img: &[u8], caller: u8) -> u8
     requires { ⌜ length (now img) ≡ imageLength ⌝ }
     ensures { λ r. ⌜ r ≡ notOwnerNumber (now (img .entry)) caller ⌝ }
 {
     if flag_of(img, 0) != 1 {
         return 1;
     }
-    if fields::get8(img, 2) != caller {
-        return 3;
-    }
-    0
+    owner_role_check(img, caller)
 }
 
 // 1, 3, 22.
@@ -99,18 +107,26 @@ pub fn is_insider(img: &[u8], a: u8) -> u8
     0
 }
 
+// 3, the operator let in too.
+pub fn insider_role_check(img: &[u8], caller: u8) -> u8
+    requires { ⌜ length (now img) ≡ imageLength ⌝ }
+    ensures { λ r. ⌜ r ≡ insiderRoleNumber (now (img .entry)) caller ⌝ }
+{
+    if is_insider(img, caller) != 1 {
+        return 3;
+    }
+    0
+}
+
 // 1, 3, the operator let in too.
-pub fn insider_check(img: &[u8], caller: u8) -> u8
+fn insider_check(img: &[u8], caller: u8) -> u8
     requires { ⌜ length (now img) ≡ imageLength ⌝ }
     ensures { λ r. ⌜ r ≡ notInsiderNumber (now (img .entry)) caller ⌝ }
 {
     if flag_of(img, 0) != 1 {
         return 1;
     }
-    if is_insider(img, caller) != 1 {
-        return 3;
-    }
-    0
+    insider_role_check(img, caller)
 }
 
 // 1, 3, 22, the operator let in too.
@@ -162,10 +178,7 @@ pub fn deposit_amount_check(n: Amount) -> u8
     if amount::below(amount::zero(), n) == 0 {
         return 4;
     }
-    if amount::below(max_vault_deposit(), n) != 0 {
-        return 5;
-    }
-    0
+    max_deposit_check(n)
 }
 
 // 10.

@@ -14,7 +14,6 @@ use Rattle.events.specs.Event.{eventBuffer}
 use Rattle.record.specs.Record.{operationOf, callerOf, tokenOf, sequenceOf, signersOf, amountOf, feeOf}
 use Rattle.storage.specs.Facts.{Good}
 use Rattle.image.specs.Layout.{defaultToken}
-use Rattle.amount.specs.Biased.{bias}
 use Rattle.fields.specs.Rules.{pick, unlinked}
 use Rattle.deposits.specs.Deposit.{depositOutcome, deposit, netOf, depositWithFeeOutcome, depositWithFee}
 use Rattle.deposits.specs.Report.{reportOutcome, failureReportOutcome, depositWithFailureReport}

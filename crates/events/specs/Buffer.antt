@@ -3,16 +3,16 @@ use mathlib.Core.Path.{_≡_, refl, sym, ap, _∙_}
 use mathlib.Core.List.{List, [], _∷_, _++_, append-assoc, append-nil}
 use mathlib.Core.Bool.{Bool, true, false}
 use Prim.Native.Nat.{ℕ, zero, suc, _+_, _*_, _-_, _≤_, _<_}
-use native.Mathlib.Nat.{zero-add, add-assoc, sub-zero, zero-sub, suc-sub-suc}
+use native.Mathlib.Nat.{sub-zero, zero-sub, suc-sub-suc}
 use native.Mathlib.Omega.{arith}
-use lib.ListN.{length, getD, replicate, take, drop, length-append, length-replicate, List·getD-append}
-use lib.Seq.{take-at, drop-at, drop-drop, getD-append-add}
-use Rattle.fields.specs.Bytes.{le, put}
+use lib.ListN.{length, getD, replicate, take, drop, length-append, length-replicate}
+use lib.Seq.{take-at, drop-at, drop-drop}
+use Rattle.fields.specs.Bytes.{put}
 use Rattle.fields.specs.Rules.{passed}
-use Rattle.amount.specs.Biased.{bias, num, amountAt, putAmount}
-use Rattle.events.specs.Splice.{splice, bytesOf, amountBytes, length-amountBytes, put-splice, put-next, putAmount-next, byte-of, le-like, amountAt-like, amountAt-amountBytes}
+use Rattle.amount.specs.Biased.{bias, num, putAmount}
+use Rattle.events.specs.Splice.{splice, bytesOf, amountBytes, length-amountBytes, put-splice, put-next, putAmount-next, byte-of}
 use Rattle.events.specs.Kinds.{depositedEvent, tokenDepositedEvent, pausedEvent, unpausedEvent}
-use Rattle.events.specs.Event.{EventFields, eventHead, eventBytes, putEvent, eventRun, eventBuffer, blankEvents, bufferRules, bufferNumber}
+use Rattle.events.specs.Event.{EventFields, eventHead, eventBytes, putEvent, eventRun, eventBuffer, bufferRules, bufferNumber}
 
 pub length-eventBytes : (e : EventFields) → length (eventBytes e) ≡ 56
 unfolding eventBytes eventHead
@@ -27,8 +27,8 @@ pub length-eventBuffer : (es : List EventFields) → length es ≤ 16 → length
 unfolding eventBuffer
 length-eventBuffer es h = rw (length-append, length-eventRun, length-replicate) (omega arith)
 
-pub buffer-none : eventBuffer [] ≡ blankEvents
-unfolding eventBuffer eventRun blankEvents
+pub buffer-none : eventBuffer [] ≡ replicate 896 0
+unfolding eventBuffer eventRun
 buffer-none = refl
 
 pub buffer-cleared : (l : List ℕ) → length l ≡ 896 → replicate (length l) 0 ≡ eventBuffer []
@@ -106,86 +106,10 @@ event-written l i e h k =
       append-assoc,
     )
 
--- ---- an event read back
-abbrev pub noEvent : EventFields
-noEvent = record { kind = 0; first = 0; second = 0; yes = 0; number0 = 0; number1 = 0; number2 = 0 }
-
-run-at : (es : List EventFields) (z : List ℕ) (i j : ℕ) → i < length es → j < 56 → getD (eventRun es ++ z) (56 * i + j) 0 ≡ getD (eventBytes (getD es i noEvent)) j 0
-unfolding eventRun
-run-at [] z i j h k = absurd (omega arith)
-run-at (e ∷ es) z zero j h k =
-    let n : 56 * 0 + j ≡ j = omega arith in
-    let b : j < length (eventBytes e) = rw length-eventBytes k in
-    rw (append-assoc, n) (List·getD-append (eventBytes e) (eventRun es ++ z) 0 j b)
-run-at (e ∷ es) z (suc i) j h k =
-    let n : 56 * suc i + j ≡ length (eventBytes e) + (56 * i + j) = rw length-eventBytes (omega arith) in
-    rw (append-assoc, n, getD-append-add (eventBytes e) (eventRun es ++ z) (56 * i + j) 0) (run-at es z i j (omega arith) k)
-
-pub getD-event : (es : List EventFields) (i j : ℕ) → i < length es → j < 56 → getD (eventBuffer es) (56 * i + j) 0 ≡ getD (eventBytes (getD es i noEvent)) j 0
-unfolding eventBuffer
-getD-event es i j h k = run-at es (replicate (896 - 56 * length es) 0) i j h k
-
-module _ (es : List EventFields) (i : ℕ) (h : i < length es) where
-  pub le-event : (w j : ℕ) → j + w ≤ 56 → le w (eventBuffer es) (56 * i + j) ≡ le w (eventBytes (getD es i noEvent)) j
-  le-event w j k = le-like w _ (56 * i + j) _ j (λ m b. rw add-assoc (getD-event es i (j + m) h (omega arith)))
-
-  pub amountAt-event : (j : ℕ) → j + 16 ≤ 56 → amountAt (eventBuffer es) (56 * i + j) ≡ amountAt (eventBytes (getD es i noEvent)) j
-  amountAt-event j k = amountAt-like _ (56 * i + j) _ j (λ m b. rw add-assoc (getD-event es i (j + m) h (omega arith)))
-
--- the fields of the 56 bytes. An address and a kind are one byte, and a number is that of an amount
-module _ (e : EventFields) where
-  pub kind-read : le 1 (eventBytes e) 0 ≡ e .kind
-  unfolding le eventBytes eventHead
-  kind-read = omega arith
-
-  pub first-read : le 1 (eventBytes e) 1 ≡ e .first
-  unfolding le eventBytes eventHead
-  first-read = omega arith
-
-  pub second-read : le 1 (eventBytes e) 2 ≡ e .second
-  unfolding le eventBytes eventHead
-  second-read = omega arith
-
-  pub yes-read : le 1 (eventBytes e) 3 ≡ e .yes
-  unfolding le eventBytes eventHead
-  yes-read = omega arith
-
--- the kind of the first event
-pub first-kind : (e : EventFields) (es : List EventFields) → le 1 (eventBuffer (e ∷ es)) 0 ≡ e .kind
-first-kind e es = le-event (e ∷ es) 0 (omega arith) 1 0 (omega arith) ∙ kind-read e
-
--- the same, of the first byte, as the book reads it
+-- the buffer's first byte is the kind of the first event, as the book reads it
 pub first-byte : (e : EventFields) (es : List EventFields) → getD (eventBuffer (e ∷ es)) 0 0 ≡ e .kind
-unfolding le
-first-byte e es = let k = first-kind e es in omega arith
-
-amountAt-after : (a b : List ℕ) (k : ℕ) → length a ≡ k → amountAt (a ++ b) k ≡ amountAt b 0
-amountAt-after a b k e = amountAt-like (a ++ b) k b 0 (λ i h. rw (← e, zero-add) (getD-append-add a b i 0))
-
--- an amount after the k bytes a and before the bytes b
-amountAt-middle : (a b : List ℕ) (k n : ℕ) → length a ≡ k → n < bias + bias → amountAt (a ++ (amountBytes n ++ b)) k ≡ n
-amountAt-middle a b k n e h = amountAt-after a (amountBytes n ++ b) k e ∙ amountAt-amountBytes n b h
-
-module _ (e : EventFields) where
-  pub number0-read : e .number0 < bias + bias → amountAt (eventBytes e) 8 ≡ e .number0
-  unfolding eventBytes
-  number0-read h = amountAt-middle (eventHead e) _ 8 (e .number0) (head-long e) h
-
-  pub number1-read : e .number1 < bias + bias → amountAt (eventBytes e) 24 ≡ e .number1
-  unfolding eventBytes
-  number1-read h =
-      rw (← append-assoc (eventHead e) (amountBytes (e .number0)) (amountBytes (e .number1) ++ amountBytes (e .number2)))
-      (amountAt-middle (eventHead e ++ amountBytes (e .number0)) _ 24 (e .number1) (one-long e) h)
-
-  pub number2-read : e .number2 < bias + bias → amountAt (eventBytes e) 40 ≡ e .number2
-  unfolding eventBytes
-  number2-read h =
-      rw (
-        ← append-assoc (eventHead e) (amountBytes (e .number0)) (amountBytes (e .number1) ++ amountBytes (e .number2)),
-        ← append-assoc (eventHead e ++ amountBytes (e .number0)) (amountBytes (e .number1)) (amountBytes (e .number2)),
-        ← append-nil (amountBytes (e .number2)),
-      )
-      (amountAt-middle ((eventHead e ++ amountBytes (e .number0)) ++ amountBytes (e .number1)) [] 40 (e .number2) (two-long e) h)
+unfolding eventBuffer eventRun eventBytes eventHead
+first-byte e es = refl
 
 -- ---- refusal 33
 pub buffer-long : (l : List ℕ) → bufferNumber l ≡ 0 → length l ≡ 896

@@ -55,10 +55,6 @@ eventRun (e ∷ es) = eventBytes e ++ eventRun es
 unfoldable pub eventBuffer : List EventFields → List ℕ
 eventBuffer es = eventRun es ++ replicate (896 - 56 * length es) 0
 
--- the buffer with no event
-unfoldable pub blankEvents : List ℕ
-blankEvents = replicate 896 0
-
 -- refusal 33
 abbrev pub bufferRules : List ℕ → List Rule
 bufferRules l = when (ne (length l) 896) 33 ∷ []

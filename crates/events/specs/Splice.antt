@@ -2,7 +2,7 @@
 use mathlib.Core.Path.{_≡_, refl, sym, ap, _∙_}
 use mathlib.Core.List.{List, [], _∷_, _++_, append-assoc}
 use Prim.Native.Nat.{ℕ, zero, suc, _+_, _*_, _/_, _%_, _^_, _≤_, _<_}
-use native.Mathlib.Nat.{add-zero, zero-add, add-suc, suc-add, add-assoc, pow-suc, mod-lt, div-add-mod', div-lt-iff-lt-mul}
+use native.Mathlib.Nat.{add-zero, zero-add, add-suc, suc-add, pow-suc, mod-lt, div-add-mod', div-lt-iff-lt-mul}
 use native.Mathlib.Numerals.{add-one, one-add}
 use native.Mathlib.Omega.{arith}
 use lib.Dec.{lit<}
@@ -110,13 +110,6 @@ le-like (suc w) l at m b h =
     let there : (i : ℕ) → i < w → getD l (suc at + i) 0 ≡ getD m (suc b + i) 0 =
     λ i k. ap (λ (n : ℕ). getD l n 0) (suc-add at i ∙ sym (add-suc at i)) ∙ h (suc i) (omega arith) ∙ ap (λ (n : ℕ). getD m n 0) (add-suc b i ∙ sym (suc-add b i)) in
     rw (here, le-like w l (suc at) m (suc b) there)
-
-pub amountAt-like : (l : List ℕ) (at : ℕ) (m : List ℕ) (b : ℕ) → ((i : ℕ) → i < 16 → getD l (at + i) 0 ≡ getD m (b + i) 0) → amountAt l at ≡ amountAt m b
-unfolding amountAt
-amountAt-like l at m b h =
-    let lo = le-like 8 l at m b (λ i k. h i (omega arith)) in
-    let hi = le-like 8 l (at + 8) m (b + 8) (λ i k. rw (add-assoc, add-assoc) (h (8 + i) (omega arith))) in
-    rw (lo, hi)
 
 -- the bytes of a number, read at the front of a list
 pub le-bytesOf : (w x : ℕ) (l : List ℕ) → x < 256 ^ w → le w (bytesOf w x ++ l) 0 ≡ x

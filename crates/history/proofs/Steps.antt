@@ -8,7 +8,7 @@ use lib.Dec.{eqb}
 use lib.ListN.{length, replicate}
 use borrow.Author.Tests.{eqb-false}
 use Rattle.journal.specs.Calls.{Call, operation, begin, commit, rollback, undo, State, Step, Done}
-use Rattle.journal.specs.Journal.{Contents, bytesOf, contentsOf, goodJournal, room, journalAfter}
+use Rattle.journal.specs.Journal.{Contents, bytesOf, contentsOf, room, journalAfter}
 use Rattle.journal.specs.Step.{vault, reply, begun, committed, rolledBack, undone, lastUndone, outcome, operated, step}
 use Rattle.journal.proofs.Written.{sound}
 use Rattle.journal.proofs.States.{fresh, fresh-good, fresh-contents, zeros-good, zeros-contents, begun-open, begun-closed, committed-open, committed-closed, rolled-closed, undone-open, undone-closed, begun-rolled, entered-good, entered-undone, entered-rolled}

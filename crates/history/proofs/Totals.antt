@@ -1,8 +1,8 @@
 -- A total of sums is the sum of the totals, and so with differences.
-use mathlib.Core.Path.{_≡_, refl, sym, ap, ap₂, _∙_}
+use mathlib.Core.Path.{_≡_, refl, sym, ap, _∙_}
 use mathlib.Core.List.{List, [], _∷_}
 use Prim.Native.Nat.{ℕ}
-use lib.IntN.{ℤ, pos, negℤ, _+ℤ_, _-ℤ_, negℤ-+ℤ, +ℤ-assoc, +ℤ-comm}
+use lib.IntN.{ℤ, negℤ, _+ℤ_, _-ℤ_, negℤ-+ℤ, +ℤ-assoc, +ℤ-comm}
 use Rattle.journal.specs.Calls.{Call, operation, begin, commit, rollback, undo, State, Answer, Step}
 use Rattle.history.specs.Kept.{total}
 

@@ -123,12 +123,9 @@ holding l t a = amountAt l (holdingAt t a)
 abbrev pub credit : List ℕ → ℕ → ℕ → ℕ
 credit l t a = amountAt l (creditAt t a)
 
--- ---- flags, and members of the two sets
+-- ---- flags, and members of the capped set
 abbrev pub initialised : List ℕ → ℕ
 initialised l = bit (flags l) 0
-
-abbrev pub paused : List ℕ → ℕ
-paused l = bit (flags l) 1
 
 abbrev pub hasOperator : List ℕ → ℕ
 hasOperator l = bit (flags l) 2
@@ -141,9 +138,6 @@ hasPending l = bit (flags l) 4
 
 abbrev pub hasMigration : List ℕ → ℕ
 hasMigration l = bit (flags l) 5
-
-abbrev pub isApproved : List ℕ → ℕ → ℕ
-isApproved l a = bit (approvedSet l) a
 
 abbrev pub isCapped : List ℕ → ℕ → ℕ
 isCapped l a = bit (cappedSet l) a

@@ -8,11 +8,11 @@ use native.Mathlib.Omega.{arith}
 use lib.Dec.{eqb}
 use lib.ListN.{length, take, drop, length-append, length-take, length-drop, take-append-drop}
 use lib.Seq.{take-at, drop-at}
-use borrow.Author.Tests.{eq-eqb, ne-eqb, eqb-true, eqb-false}
+use borrow.Author.Tests.{eq-eqb, ne-eqb}
 use Rattle.fields.specs.Rules.{pick}
 use Rattle.fields.specs.Same.{sameBytes, same-is}
 use Rattle.journal.specs.Journal.{Entry, ordered, changed, putBack, restore, ofCall, exceptCall}
-use Rattle.journal.proofs.Written.{Next, order-out, order-in}
+use Rattle.journal.proofs.Written.{order-out, order-in}
 
 pub restore-append : (es fs : List Entry) (image : List ℕ) → restore (es ++ fs) image ≡ restore es (restore fs image)
 unfolding restore
@@ -152,40 +152,3 @@ newest-all call (suc n) i a b = go (sameBytes (take 16 a) (take 16 b)) (newest-a
         → (ofCall call (pick t rest (first ∷ rest)) ≡ pick t rest (first ∷ rest)) × (exceptCall call (pick t rest (first ∷ rest)) ≡ [])
     go true h = h
     go false h = (rw w (ap (λ l. first ∷ l) (h .0)), rw w (h .1))
-
--- ---- the entries of the calls before the last are in order
-last-all : (cells n next : ℕ) (es : List Entry) → ordered cells (suc n) (suc n) next es ≡ true → exceptCall (suc n) es ≡ []
-unfolding exceptCall
-last-all cells n next [] h = refl
-last-all cells n next (e ∷ es) h =
-    let o = order-out cells (suc n) (suc n) next e es h in
-    let m = o .0 .most in
-    let r = o .0 .rising in
-    let q : e .call ≡ suc n = omega arith in
-    rw (eq-eqb (e .call) (suc n) q) (last-all cells n (suc (e .cell)) es (rw q at (o .1)))
-
-pub except-order : (cells n last next : ℕ) (es : List Entry) → ordered cells (suc n) last next es ≡ true → ordered cells n last next (exceptCall (suc n) es) ≡ true
-unfolding exceptCall
-except-order cells n last next [] h = unfold ordered in refl
-except-order cells n last next (e ∷ es) h =
-    let o = order-out cells (suc n) last next e es h in
-    go (eqb (e .call) (suc n)) refl (o .0) (λ q. last-all cells n (suc (e .cell)) es (rw q at (o .1))) (except-order cells n (e .call) (suc (e .cell)) es (o .1))
-  where
-    go : (t : Bool) → eqb (e .call) (suc n) ≡ t → Next cells (suc n) last next e → (e .call ≡ suc n → exceptCall (suc n) es ≡ [])
-        → ordered cells n (e .call) (suc (e .cell)) (exceptCall (suc n) es) ≡ true
-        → ordered cells n last next (pick t (exceptCall (suc n) es) (e ∷ exceptCall (suc n) es)) ≡ true
-    go true w x f r = rw (f (eqb-true (e .call) (suc n) w)) (unfold ordered in refl)
-    go false w x f r =
-        let m = x .most in
-        let d = eqb-false (e .call) (suc n) w in
-        order-in cells n last next e (exceptCall (suc n) es)
-        (record { first = x .first; most = omega arith; rising = x .rising; below = x .below; ascending = x .ascending; sixteen = x .sixteen }) r
-
-pub except-few : (n : ℕ) (es : List Entry) → length (exceptCall n es) ≤ length es
-unfolding exceptCall
-except-few n [] = omega arith
-except-few n (e ∷ es) = go (eqb (e .call) n) (except-few n es)
-  where
-    go : (t : Bool) → length (exceptCall n es) ≤ length es → length (pick t (exceptCall n es) (e ∷ exceptCall n es)) ≤ suc (length es)
-    go true h = omega arith
-    go false h = omega arith

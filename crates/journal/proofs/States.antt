@@ -12,8 +12,8 @@ use Rattle.fields.specs.Logic.{_and_, _or_, and-l, and-r, and-i, or-l}
 use Rattle.journal.specs.Calls.{State}
 use Rattle.journal.specs.Journal.{Entry, Contents, entriesBytes, layout, bytesOf, contentsOf, ordered, valid, fits, goodJournal, changed, restore, ofCall, exceptCall, entered, room, journalAfter}
 use Rattle.journal.specs.Step.{vault, reply, begun, committed, rolledBack, undone, lastUndone}
-use Rattle.journal.proofs.Written.{or-out, contents≡, length-bytes, contents-bytes, good-bytes, sound, fits-long, good-order, good-room, good-calls}
-use Rattle.journal.proofs.Cells.{restore-append, put-back, changed-order, append-order, ofCall-append, exceptCall-append, older-none, newest-all, except-order, except-few}
+use Rattle.journal.proofs.Written.{or-out, contents≡, length-bytes, contents-bytes, good-bytes, sound, fits-long, good-order}
+use Rattle.journal.proofs.Cells.{restore-append, put-back, changed-order, append-order, ofCall-append, exceptCall-append, older-none, newest-all}
 
 pub state≡ : {a b : State} → a .image ≡ b .image → a .journal ≡ b .journal → a ≡ b
 state≡ p q = λ i. record { image = p i; journal = q i }
@@ -124,23 +124,6 @@ begun-rolled cells s g o =
     let l = length-bytes cells (length (s .journal)) fresh (fresh-valid (length (s .journal)) f cells) in
     rw (begun-closed s o, rolled-open (vault (s .image) (bytesOf (length (s .journal)) fresh)) (ap (λ (p : Contents). p .opened) e), e, l)
     (state≡ refl (closed-zeros cells (s .journal) g o))
-
--- the contents after an undo are valid, so that its journal is good
-undone-valid : (cells : ℕ) (j : List ℕ) (n : ℕ) → goodJournal cells j ≡ true → contentsOf j .calls ≡ suc n
-    → valid cells (length j) (record { opened = true; calls = n; entries = exceptCall (suc n) (contentsOf j .entries) }) ≡ true
-unfolding valid
-undone-valid cells j n g e =
-    let es = contentsOf j .entries in
-    let c = good-calls cells j g in
-    let r = good-room cells j g in
-    let f = except-few (suc n) es in
-    and-i _ _ (and-i _ _ (le-leb n 1000 (omega arith)) (le-leb (24 * suc (length (exceptCall (suc n) es))) (length j) (omega arith)))
-    (and-i _ _ (except-order cells n 0 0 es (rw e at (good-order cells j g))) (or-l _ _ refl))
-
-pub undone-good : (cells : ℕ) (j : List ℕ) (n : ℕ) → goodJournal cells j ≡ true → contentsOf j .calls ≡ suc n
-    → goodJournal cells (bytesOf (length j) (record { opened = true; calls = n; entries = exceptCall (suc n) (contentsOf j .entries) })) ≡ true
-undone-good cells j n g e =
-    good-bytes cells (length j) (record { opened = true; calls = n; entries = exceptCall (suc n) (contentsOf j .entries) }) (undone-valid cells j n g e) (sound cells j g .long)
 
 -- ---- an operation that is entered
 module _ (cells : ℕ) (old new j : List ℕ) (g : goodJournal cells j ≡ true) (long-old : length old ≡ 16 * cells) (long-new : length new ≡ 16 * cells)

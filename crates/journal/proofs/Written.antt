@@ -185,7 +185,3 @@ calls-at j = refl
 pub count-at : (j : List ℕ) → length (contentsOf j .entries) ≡ le 2 j 4
 unfolding contentsOf
 count-at j = length-read (le 2 j 4) (drop 24 j)
-
-pub opened-at : (j : List ℕ) → contentsOf j .opened ≡ eqb (getD j 0 0) 1
-unfolding contentsOf
-opened-at j = refl

@@ -13,7 +13,7 @@ use Rattle.book.specs.Entries.{taken}
 use Rattle.record.specs.Record.{itemAmount}
 use Rattle.token.specs.Token.{transferOf}
 use Rattle.storage.specs.Facts.{Good}
-use Rattle.storage.specs.Writes.{holding-range, credit-range}
+use Rattle.storage.specs.Writes.{credit-range}
 use Rattle.storage.specs.Setters.{setCredit}
 use Rattle.image.specs.Layout.{slot, defaultToken, kind, holding, credit, initialised}
 use Rattle.amount.specs.Biased.{bias}

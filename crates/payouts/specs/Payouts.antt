@@ -9,7 +9,7 @@ use Rattle.checks.specs.Checks.{pausedNumber, sharedNumber, capNumber, fundsNum
 use Rattle.events.specs.Kinds.{withdrawnEvent}
 use Rattle.events.specs.Event.{EventFields}
 use Rattle.record.specs.Record.{callerOf, otherOf, itemCountOf, sequenceOf, signersOf, amountOf, itemAddress, itemAmount}
-use Rattle.token.specs.Token.{transferNumber, transferOf}
+use Rattle.token.specs.Token.{vaultBalance, transferNumber, transferOf}
 use Rattle.storage.specs.Setters.{recordBalance}
 use Rattle.image.specs.Layout.{slot, owner, defaultToken, holding}
 use Rattle.amount.specs.Biased.{bias, num}
@@ -61,7 +61,7 @@ withdrawChecks l caller signers ps =
     ∷ noItemNumber ps
     ∷ itemsNumber ps bias
     ∷ capNumber l caller (itemsSum ps bias)
-    ∷ fundsNumber (holding l (slot (defaultToken l)) 1) (itemsSum ps bias)
+    ∷ fundsNumber (vaultBalance l) (itemsSum ps bias)
     ∷ [])
 
 -- ---- one payout

@@ -4,12 +4,12 @@ use mathlib.Core.List.{List, [], _∷_}
 use Prim.Native.Nat.{ℕ}
 use lib.Dec.{ltb}
 use Rattle.outcome.specs.Outcome.{Outcome, announces}
-use Rattle.checks.specs.Checks.{flag, pausedBit, operatorBit, operatorLimitBit, pausedNumber, signedNumber, initialisedNumber, notOwnerNumber, ownerNumber, notInsiderNumber, sharedNumber, amountNumber}
+use Rattle.checks.specs.Checks.{flag, pausedBit, operatorBit, operatorLimitBit, pausedNumber, signedNumber, initialisedNumber, ownerRoleNumber, ownerNumber, insiderRoleNumber, sharedNumber, amountNumber}
 use Rattle.events.specs.Kinds.{limitSetEvent, operatorWithdrawLimitSetEvent, operatorSetEvent, operatorRevokedEvent, pausedEvent, unpausedEvent}
 use Rattle.record.specs.Record.{callerOf, tokenOf, otherOf, timestampOf, signersOf, amountOf}
 use Rattle.storage.specs.Setters.{setCap}
-use Rattle.image.specs.Layout.{slot, flags, defaultToken, vaultLimit, operatorLimit, holding, withBit, withoutBit}
-use Rattle.amount.specs.Value.{value}
+use Rattle.token.specs.Token.{vaultBalance}
+use Rattle.image.specs.Layout.{flags, vaultLimit, operatorLimit, withBit, withoutBit}
 use Rattle.amount.specs.Biased.{putAmount}
 use Rattle.fields.specs.Rules.{pick, lt, eq, ne, Rule, when, verdict, chain}
 use Rattle.fields.specs.Bytes.{put}
@@ -28,13 +28,13 @@ setOperatorWithdrawLimit l r = operatorLimitOutcome l (callerOf r) (signersOf r)
 
 -- ---- 11: 8; 1; 4; 6 below holding; raising 3, 22 for owner only, else for owner or operator
 abbrev pub belowHoldingRules : List ℕ → ℕ → List Rule
-belowHoldingRules l n = when (lt n (holding l (slot (defaultToken l)) 1)) 6 ∷ []
+belowHoldingRules l n = when (lt n (vaultBalance l)) 6 ∷ []
 
 unfoldable pub belowHoldingNumber : List ℕ → ℕ → ℕ
 belowHoldingNumber l n = verdict (belowHoldingRules l n)
 
 unfoldable pub limitRoleNumber : List ℕ → ℕ → ℕ → ℕ
-limitRoleNumber l caller n = pick (ltb (vaultLimit l) n) (notOwnerNumber l caller) (notInsiderNumber l caller)
+limitRoleNumber l caller n = pick (ltb (vaultLimit l) n) (ownerRoleNumber l caller) (insiderRoleNumber l caller)
 
 unfoldable pub limitSetNumber : List ℕ → ℕ → ℕ → ℕ → ℕ
 limitSetNumber l caller signers n =

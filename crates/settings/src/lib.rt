@@ -62,8 +62,7 @@ fn below_holding_check(img: &[u8], n: Amount) -> u8
     requires { ⌜ Good (now img) × (initialised (now img) ≡ 1) ⌝ }
     ensures { λ r. ⌜ r ≡ belowHoldingNumber (now (img .entry)) (biased n) ⌝ }
 {
-    let t = fields::get8(img, 3);
-    if amount::below(n, token::balance(img, t as usize, 1)) != 0 {
+    if amount::below(n, token::vault_balance(img)) != 0 {
         return 6;
     }
     0
@@ -75,9 +74,9 @@ fn limit_role_check(img: &[u8], caller: u8, n: Amount) -> u8
     ensures { λ r. ⌜ r ≡ limitRoleNumber (now (img .entry)) caller (biased n) ⌝ }
 {
     if amount::below(amount::read_amount(img, 8), n) != 0 {
-        return checks::owner_check(img, caller);
+        return checks::owner_role_check(img, caller);
     }
-    checks::insider_check(img, caller)
+    checks::insider_role_check(img, caller)
 }
 
 // 8; 1; 4; 6; 3; 22.

@@ -305,10 +305,3 @@ test l g =
     head : (b : Bool) → eqb (initialised l) 1 ≡ b → pick b (goodAddresses l and goodDefaults l and goodOptions l) (zeros l 0 3680) ≡ true
     head true e = let i = eqb-true (initialised l) 1 e in fields-test l (g .fields i) (g .default i)
     head false e = zero-test l 0 3680 (g .blank (bit-one (flags l / 2 ^ 0) (eqb-false (initialised l) 1 e)))
-
--- for code that has a good image
-pub image-long : (l : List ℕ) → goodImage l ≡ true → length l ≡ 36832
-image-long l h = facts l h .long
-
-pub count-fits : (l : List ℕ) → goodImage l ≡ true → trackedCount l ≤ 1088
-count-fits l h = facts l h .keys .few

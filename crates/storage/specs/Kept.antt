@@ -1,10 +1,9 @@
 -- The writes of Setters: the bytes that each leaves, and that a good image stays good.
-use mathlib.Core.Path.{_≡_, refl, _∙_}
+use mathlib.Core.Path.{_≡_, refl}
 use mathlib.Core.Bool.{Bool, true, false}
 use mathlib.Core.List.{List}
 use Prim.Native.Nat.{ℕ, _+_, _≤_, _<_}
 use native.Mathlib.Omega.{arith}
-use lib.ListN.{length}
 use Rattle.image.specs.Layout.{slot, capAt, snapshotAt, trackedKeyAt, creditsAt, creditAt, cappedSet, trackedCount, kind, initialised, withBit}
 use Rattle.image.specs.Good.{tracked}
 use Rattle.amount.specs.Frame.{only-putAmount}
@@ -55,21 +54,8 @@ module _ (l : List ℕ) (k : ℕ) (g : Keys l) (h : k < 1088) where
   pub track-below : (b w : ℕ) → b + w ≤ 88 → Agree b w l (trackKey l k)
   track-below b w q = under b w 88 3592 only-track q
 
-  pub track-between : (b w : ℕ) → 96 ≤ b → b + w ≤ 1504 → Agree b w l (trackKey l k)
-  unfolding trackKey
-  track-between b w p q = go (tracked l (trackedCount l) k)
-    where
-      go : (c : Bool) → Agree b w l (pick c l (put 8 (put 2 l (trackedKeyAt (trackedCount l)) k) 88 (trackedCount l + 1)))
-      go true = record { same = λ i u v. refl }
-      go false =
-          agree-then (under b w (trackedKeyAt (trackedCount l)) 2 (only-put 2 l (trackedKeyAt (trackedCount l)) k) (omega arith))
-          (over b w 88 8 (only-put 8 _ 88 (trackedCount l + 1)) (omega arith))
-
   pub track-above : (b w : ℕ) → 3680 ≤ b → Agree b w l (trackKey l k)
   track-above b w q = over b w 88 3592 only-track (omega arith)
-
-  pub track-long : length (trackKey l k) ≡ length l
-  track-long = only-track .long
 
 -- ---- a credit
 module _ (l : List ℕ) (t a n : ℕ) (th : t < 64) (ah : a < 64) where
@@ -85,20 +71,11 @@ module _ (l : List ℕ) (t a n : ℕ) (th : t < 64) (ah : a < 64) where
     setCredit-below b w q =
         agree-then (under b w (creditsAt (slot t)) 1024 only-credit (omega arith)) (track-below _ (creditKey t a) (credit-keys g) (omega arith) b w q)
 
-    pub setCredit-between : (b w : ℕ) → 96 ≤ b → b + w ≤ 1504 → Agree b w l (setCredit l t a n)
-    unfolding setCredit
-    setCredit-between b w p q =
-        agree-then (under b w (creditsAt (slot t)) 1024 only-credit (omega arith)) (track-between _ (creditKey t a) (credit-keys g) (omega arith) b w p q)
-
     -- tokens and holdings
     pub setCredit-above : (b w : ℕ) → 3680 ≤ b → b + w ≤ 20448 → Agree b w l (setCredit l t a n)
     unfolding setCredit
     setCredit-above b w p q =
         agree-then (under b w (creditsAt (slot t)) 1024 only-credit (omega arith)) (track-above _ (creditKey t a) (credit-keys g) (omega arith) b w p)
-
-    pub setCredit-long : length (setCredit l t a n) ≡ length l
-    unfolding setCredit
-    setCredit-long = track-long _ (creditKey t a) (credit-keys g) (omega arith) ∙ only-credit .long
 
   pub good-setCredit : Good l → initialised l ≡ 1 → 48 ≤ t → 0 < kind l (slot t) → bias ≤ n → n < bias + bias → Good (setCredit l t a n)
   unfolding setCredit

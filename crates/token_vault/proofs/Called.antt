@@ -2,7 +2,7 @@
 use mathlib.Core.Path.{_≡_, refl, sym, ap, _∙_}
 use mathlib.Core.Bool.{Bool, true, false}
 use mathlib.Core.List.{List, [], append-nil}
-use Prim.Native.Nat.{ℕ, zero, suc, _+_}
+use Prim.Native.Nat.{ℕ, zero, suc, _+_, _≤_}
 use native.Mathlib.Nat.{add-zero}
 use native.Mathlib.Decide.{ℕ-discrete}
 use native.Mathlib.Omega.{arith}
@@ -12,10 +12,12 @@ use Rattle.journal.specs.Calls.{Call, operation, begin, commit, rollback, undo,
 use Rattle.journal.proofs.Dispatch.{operated-refused, operated-view, operated-closed, operated-full, operated-entered, step-30, step-31, step-operation, step-begin, step-commit, step-rollback, step-undo}
 use Rattle.outcome.specs.declared.Answer.{Answer}
 use Rattle.journal.specs.Parts.{Enters}
-use Rattle.journal.specs.Step.{vault, reply, blank, operated, begun, committed, rolledBack, undone}
+use Rattle.journal.specs.Step.{vault, reply, blank, lent, operated, begun, committed, rolledBack, undone, step}
 use Rattle.views.specs.Views.{balanceOutcome, effectiveOutcome, accountOutcome, approvedOutcome, compliantOutcome}
+use Rattle.moves.specs.Outside.{freezeOutcome}
+use Rattle.setup.specs.Setup.{initialize}
 use Rattle.outcome.specs.Outcome.{Outcome, Does, Views}
-use Rattle.events.specs.Event.{eventBuffer, blankEvents, bufferNumber}
+use Rattle.events.specs.Event.{eventBuffer, bufferNumber}
 use Rattle.events.specs.Buffer.{buffer-none}
 use Rattle.events.specs.Splice.{amountBytes, splice, length-amountBytes, putAmount-splice}
 use Rattle.record.specs.Form.{member, isView, formNumber}
@@ -23,9 +25,9 @@ use Rattle.record.specs.Record.{operationOf}
 use Rattle.image.specs.Layout.{cells}
 use Rattle.image.specs.Good.{goodImage}
 use Rattle.amount.specs.Biased.{bias, biased, putAmount}
-use Rattle.fields.specs.Rules.{link-at}
-use Rattle.token_vault.proofs.Owed.{chosen}
-use Rattle.token_vault.specs.Public.{CallIs, CallAlone, JournalIs, Replies, Answers, Tries, keptNumber, keptImage, keptJournal, Keeps}
+use Rattle.fields.specs.Rules.{pick, link-at}
+use Rattle.token_vault.proofs.Owed.{chosen, operations-consecutive}
+use Rattle.token_vault.specs.Public.{CallIs, CallAlone, JournalIs, Replies, Answers, Tries, stateNumber, keptNumber, keptImage, keptJournal, Keeps}
 use Rattle.token_vault.specs.Vault.{operations, outcomeOf, callNumber, byNumber, byForm, op, view, vaultStep}
 
 -- ---- bytes
@@ -34,7 +36,7 @@ unfolding splice
 value-bytes n = putAmount-splice (replicate 16 0) 0 n (omega arith) ∙ rw (length-amountBytes) (append-nil (amountBytes n))
 
 pub blank-is : eventBuffer [] ≡ blank
-unfolding blank blankEvents
+unfolding blank
 blank-is = buffer-none
 
 -- ---- 32 and 33
@@ -59,11 +61,16 @@ malformed l r e {k} p z = go (callNumber r e) refl
     go (suc n) q = rw (p, q)
 
 -- ---- what a view leaves
+view-number : (o : ℕ) → isView o ≡ true → 1 ≤ o
+unfolding isView member
+view-number zero v = let w : _≡_ {A = ℕ} 0 1 = cc in absurd (omega arith)
+view-number (suc o) v = omega arith
+
 module _ (l r : List ℕ) where
   pub view-silent : isView (operationOf r) ≡ true → outcomeOf l r .events ≡ []
-  unfolding outcomeOf balanceOutcome effectiveOutcome accountOutcome approvedOutcome compliantOutcome isView member
+  unfolding outcomeOf balanceOutcome effectiveOutcome accountOutcome approvedOutcome compliantOutcome freezeOutcome isView member
   view-silent v =
-      chosen (λ (x : Outcome). x .events ≡ []) (operationOf r) (operations l r) l (
+      chosen (λ (x : Outcome). x .events ≡ []) (operationOf r) (1, initialize l r) (operations l r) (view-number (operationOf r) v) (operations-consecutive l r) (
         λ o. absurd (no-op 1 o refl),
         (
           λ o. absurd (no-op 2 o refl),
@@ -121,10 +128,7 @@ module _ (l r : List ℕ) where
                                                               λ o. refl,
                                                               (
                                                                 λ o. absurd (no-op 29 o refl),
-                                                                (
-                                                                  λ o. absurd (no-op 30 o refl),
-                                                                  tt,
-                                                                ),
+                                                                λ o. refl,
                                                               ),
                                                             ),
                                                           ),
@@ -154,7 +158,6 @@ module _ (l r : List ℕ) where
           ),
         ),
       )
-      refl
     where
       no-op : (k : ℕ) → operationOf r ≡ k → isView k ≡ false → ⊥
       no-op k o q = let z : true ≡ false = sym v ∙ (ap isView o ∙ q) in let w : _≡_ {A = ℕ} 0 1 = cc in omega arith
@@ -210,17 +213,30 @@ tried-refused l r e z d p n x y =
 
 -- ---- entering an accepted operation
 module _ (l m j : List ℕ) where
-  pub kept-34 : {b : Bool} {y : List ℕ} → contentsOf j .opened ≡ true → Enters cells l m j b y → b ≡ false → Keeps l m j 34 l y
-  unfolding keptNumber keptImage keptJournal
-  kept-34 o e n = let f = sym (e .fitted) ∙ n in record { numbered = rw (o, f); changed = rw (o, f); entered = e .written ∙ rw (o, f) }
+  abbrev Entered : ℕ → List ℕ → Type 0
+  Entered n y = (n ≡ keptNumber l m j) × (y ≡ keptJournal l m j)
 
-  pub kept-entered : {b : Bool} {x y : List ℕ} → contentsOf j .opened ≡ true → Enters cells l m j b y → b ≡ true → x ≡ m → Keeps l m j 0 x y
-  unfolding keptNumber keptImage keptJournal
-  kept-entered o e n c = let f = sym (e .fitted) ∙ n in record { numbered = rw (o, f); changed = c ∙ rw (o, f); entered = e .written ∙ rw (o, f) }
+  pub entered-34 : {b : Bool} {y : List ℕ} → contentsOf j .opened ≡ true → Enters cells l m j b y → b ≡ false → Entered 34 y
+  unfolding keptNumber keptJournal
+  entered-34 o e n = let f = sym (e .fitted) ∙ n in (rw (o, f), e .written ∙ rw (o, f))
 
-  pub kept-closed : {x : List ℕ} → contentsOf j .opened ≡ false → x ≡ m → Keeps l m j 0 x j
-  unfolding keptNumber keptImage keptJournal
-  kept-closed o c = record { numbered = rw o; changed = c ∙ rw o; entered = rw o }
+  pub entered-all : {b : Bool} {y : List ℕ} → contentsOf j .opened ≡ true → Enters cells l m j b y → b ≡ true → Entered 0 y
+  unfolding keptNumber keptJournal
+  entered-all o e n = let f = sym (e .fitted) ∙ n in (rw (o, f), e .written ∙ rw (o, f))
+
+  pub entered-none : contentsOf j .opened ≡ false → Entered 0 j
+  unfolding keptNumber keptJournal
+  entered-none o = (rw o, rw o)
+
+  -- the image moves exactly where the number is 0
+  pub keeps : {k : ℕ} {x y : List ℕ} → Entered k y → (k ≡ 0 → x ≡ m) → ((k ≡ 0 → ⊥) → x ≡ l) → Keeps l m j k x y
+  unfolding keptNumber keptImage
+  keeps {k} {x} {y} h f g = record { numbered = h .0; changed = go (contentsOf j .opened) (room cells l m j) refl refl; entered = h .1 }
+    where
+      go : (o b : Bool) → contentsOf j .opened ≡ o → room cells l m j ≡ b → x ≡ pick (contentsOf j .opened) (pick (room cells l m j) m l) m
+      go true true p q = rw (p, q) (f (h .0 ∙ rw (p, q)))
+      go true false p q = rw (p, q) (g (λ z. let w : 34 ≡ 0 = sym (h .0 ∙ rw (p, q)) ∙ z in omega arith))
+      go false b p q = rw p (f (h .0 ∙ rw p))
 
 -- ---- the image and the journal after an accepted operation
 module _ (l m j : List ℕ) {k : ℕ} {x y : List ℕ} (h : Keeps l m j k x y) (d : Done) (z : d .answer .number ≡ 0) (i : m ≡ d .image) where
@@ -257,16 +273,39 @@ stops k e p d w = rw p (record { numbered = d .0; valued = d .1 ∙ sym (add-zer
 pub replies : {s : Step} {d : Rattle.journal.specs.Calls.Answer} {a : Answer} {x y v : List ℕ} → s ≡ record { answer = d; state = vault x y } → Answers d a v → Replies s a v x y
 replies p d = rw p (record { numbered = d .numbered; valued = d .valued; counted = d .counted; written = d .written; changed = refl; entered = refl })
 
--- ---- the steps of this vault
+-- ---- the steps of this vault: 30 and 31 first
+module _ (l j : List ℕ) where
+  pub state-30 : goodImage l ≡ false → 30 ≡ stateNumber l j
+  unfolding stateNumber
+  state-30 g = rw g
+
+  pub state-31 : goodImage l ≡ true → goodJournal cells j ≡ false → 31 ≡ stateNumber l j
+  unfolding stateNumber
+  state-31 g h = rw (g, h)
+
+  pub state-0 : goodImage l ≡ true → goodJournal cells j ≡ true → 0 ≡ stateNumber l j
+  unfolding stateNumber
+  state-0 g h = rw (g, h)
+
+  pub good-state : {k : ℕ} → k ≡ stateNumber l j → k ≡ 0 → (goodImage l ≡ true) × (goodJournal cells j ≡ true)
+  unfolding stateNumber
+  good-state {k} p z = go (goodImage l) (goodJournal cells j) refl refl
+    where
+      go : (a b : Bool) → goodImage l ≡ a → goodJournal cells j ≡ b → (goodImage l ≡ true) × (goodJournal cells j ≡ true)
+      go true true f g = (f, g)
+      go true false f g = absurd (let w : 31 ≡ 0 = sym (p ∙ rw (f, g)) ∙ z in omega arith)
+      go false b f g = absurd (let w : 30 ≡ 0 = sym (p ∙ rw f) ∙ z in omega arith)
+
+  pub bad-state : {k : ℕ} (c : Call) → k ≡ stateNumber l j → (k ≡ 0 → ⊥) → vaultStep (vault l j) c ≡ reply k (lent c) (vault l j)
+  unfolding vaultStep stateNumber
+  bad-state {k} c p n = go (goodImage l) (goodJournal cells j) refl refl
+    where
+      go : (a b : Bool) → goodImage l ≡ a → goodJournal cells j ≡ b → step cells goodImage op view (vault l j) c ≡ reply k (lent c) (vault l j)
+      go true true f g = absurd (n (p ∙ rw (f, g)))
+      go true false f g = let w : k ≡ 31 = p ∙ rw (f, g) in rw w (step-31 cells goodImage op view (vault l j) c f g)
+      go false b f g = let w : k ≡ 30 = p ∙ rw f in rw w (step-30 cells goodImage op view (vault l j) c f)
+
 module _ (l j r e : List ℕ) where
-  pub bad-image : goodImage l ≡ false → vaultStep (vault l j) (operation r e) ≡ reply 30 e (vault l j)
-  unfolding vaultStep
-  bad-image g = step-30 cells goodImage op view (vault l j) (operation r e) g
-
-  pub bad-journal : goodImage l ≡ true → goodJournal cells j ≡ false → vaultStep (vault l j) (operation r e) ≡ reply 31 e (vault l j)
-  unfolding vaultStep
-  bad-journal g h = step-31 cells goodImage op view (vault l j) (operation r e) g h
-
   module _ (g : goodImage l ≡ true) (h : goodJournal cells j ≡ true) where
     steps : vaultStep (vault l j) (operation r e) ≡ operated cells (view r) (vault l j) (op l r e)
     unfolding vaultStep
@@ -289,21 +328,15 @@ module _ (l j r e : List ℕ) where
     unfolding view
     operated-is v = steps ∙ ap (λ (b : Bool). operated cells b (vault l j) (op l r e)) v
 
--- ---- begin, commit, rollback and undo: c is one of them
-module _ (l j : List ℕ) (c : Call) where
-  pub journal-30 : goodImage l ≡ false → JournalIs (vaultStep (vault l j) c) 30 l j
-  unfolding vaultStep
-  journal-30 g = rw (step-30 cells goodImage op view (vault l j) c g) (record { numbered = refl; changed = refl; entered = refl })
-
-  pub journal-31 : goodImage l ≡ true → goodJournal cells j ≡ false → JournalIs (vaultStep (vault l j) c) 31 l j
-  unfolding vaultStep
-  journal-31 g h = rw (step-31 cells goodImage op view (vault l j) c g h) (record { numbered = refl; changed = refl; entered = refl })
-
+-- ---- begin, commit, rollback and undo
 -- from the equation that the journal's functions give
 pub journal-step : {s t : Step} {n : ℕ} {x y : List ℕ} → s ≡ t → reply n [] (vault x y) ≡ t → JournalIs s n x y
 journal-step p q =
     let e = q ∙ sym p in
     record { numbered = ap (λ (u : Step). u .answer .number) e; changed = ap (λ (u : Step). u .state .image) e; entered = ap (λ (u : Step). u .state .journal) e }
+
+pub journal-refused : {l j : List ℕ} {k : ℕ} (c : Call) → k ≡ stateNumber l j → (k ≡ 0 → ⊥) → JournalIs (vaultStep (vault l j) c) k l j
+journal-refused {l} {j} c p n = rw (bad-state l j c p n) (record { numbered = refl; changed = refl; entered = refl })
 
 module _ (l j : List ℕ) (g : goodImage l ≡ true) (h : goodJournal cells j ≡ true) where
   pub vault-begin : vaultStep (vault l j) begin ≡ begun (vault l j)

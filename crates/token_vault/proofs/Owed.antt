@@ -2,9 +2,9 @@
 use mathlib.Core.Path.{_≡_, refl, sym, ap, _∙_}
 use mathlib.Core.Bool.{Bool, true, false}
 use mathlib.Core.List.{List, [], _∷_}
-use Prim.Native.Nat.{ℕ, zero, suc}
+use Prim.Native.Nat.{ℕ, zero, suc, _≤_}
 use native.Mathlib.Omega.{arith}
-use borrow.Author.Tests.{eqb-true}
+use borrow.Author.Tests.{eqb-true, eqb-false}
 use lib.Dec.{eqb}
 use Rattle.views.specs.Views.{balanceOutcome, effectiveOutcome, accountOutcome, approvedOutcome, compliantOutcome}
 use Rattle.moves.specs.Owed.{outside-move-owed, freeze-owed}
@@ -16,11 +16,14 @@ use Rattle.settings.specs.Owed.{pause-owed, unpause-owed, set-operator-owed, re
 use Rattle.batch_deposits.specs.Owed.{batch-deposit-owed}
 use Rattle.deposits.specs.Owed.{deposit-owed, deposit-with-fee-owed, deposit-token-owed, deposit-with-failure-report-owed}
 use Rattle.book.specs.Book.{Book, enterBook, BookIs}
-use Rattle.outcome.specs.Outcome.{Outcome, views, formed-as}
+use Rattle.outcome.specs.Outcome.{Outcome, formed-as}
 use Rattle.events.specs.Event.{eventBuffer}
 use Rattle.record.specs.Form.{member, isView, formNumber}
+use Rattle.record.specs.Laws.{form-operation}
+use Rattle.setup.specs.Setup.{initialize}
 use Rattle.record.specs.Record.{operationOf}
 use Rattle.storage.specs.Facts.{Good}
+use Rattle.fields.specs.Logic.{_and_, and-l, and-r}
 use Rattle.fields.specs.Rules.{pick, unlinked}
 use Rattle.token_vault.specs.Vault.{operations, outcomeAt, outcomeOf, callNumber, byForm, op, view}
 
@@ -44,24 +47,39 @@ accepted-call l r e z = go (callNumber r e) (outcomeOf l r .number) refl refl z
     go zero (suc n) p q z = absurd (let w : suc n ≡ 0 = rw q at z in omega arith)
     go (suc k) n p q z = absurd (omega arith)
 
--- what holds of each row of a table, where the number is the row's, and of the outcome that stands for no row, holds of the outcome at a number
-abbrev pub AllRows : (Outcome → Type 0) → ℕ → List (ℕ × Outcome) → Type 0
-AllRows P o [] = Unit {0}
-AllRows P o (row ∷ rows) = (o ≡ row .0 → P (row .1)) × AllRows P o rows
+-- what holds of each row of a table where the number is the row's, and of the last row where the number is no less, holds of the outcome at a number
+abbrev pub AllRows : (Outcome → Type 0) → ℕ → ℕ × Outcome → List (ℕ × Outcome) → Type 0
+AllRows P o row [] = row .0 ≤ o → P (row .1)
+AllRows P o row (next ∷ rows) = (o ≡ row .0 → P (row .1)) × AllRows P o next rows
 
-pub chosen : (P : Outcome → Type 0) (o : ℕ) (rows : List (ℕ × Outcome)) (l : List ℕ) → AllRows P o rows → P (views 32 0 l) → P (outcomeAt o rows l)
-chosen P o [] l h d = d
-chosen P o (row ∷ rows) l h d = go (eqb o (row .0)) refl (chosen P o rows l (h .1) d)
+-- rows without a gap
+abbrev pub consecutive : ℕ × Outcome → List (ℕ × Outcome) → Bool
+consecutive row [] = true
+consecutive row (next ∷ rows) = eqb (next .0) (suc (row .0)) and consecutive next rows
+
+pub chosen : (P : Outcome → Type 0) (o : ℕ) (row : ℕ × Outcome) (rows : List (ℕ × Outcome)) → row .0 ≤ o → consecutive row rows ≡ true → AllRows P o row rows → P (outcomeAt o row rows)
+chosen P o row [] low c h = h low
+chosen P o row (next ∷ rows) low c h = go (eqb o (row .0)) refl (λ low. chosen P o next rows low (and-r _ _ c) (h .1))
   where
-    go : (b : Bool) → eqb o (row .0) ≡ b → P (outcomeAt o rows l) → P (pick b (row .1) (outcomeAt o rows l))
-    go true e q = h .0 (eqb-true o (row .0) e)
-    go false e q = q
+    go : (b : Bool) → eqb o (row .0) ≡ b → (next .0 ≤ o → P (outcomeAt o next rows)) → P (pick b (row .1) (outcomeAt o next rows))
+    go true e f = h .0 (eqb-true o (row .0) e)
+    go false e f =
+        let n : o ≡ row .0 → ⊥ = eqb-false o (row .0) e in
+        let s : next .0 ≡ suc (row .0) = eqb-true (next .0) (suc (row .0)) (and-l _ _ c) in
+        f (omega arith)
+
+pub operations-consecutive : (l r : List ℕ) → consecutive (1, initialize l r) (operations l r) ≡ true
+unfolding _and_
+operations-consecutive l r = refl
 
 module _ (l r : List ℕ) (g : Good l) (f : formNumber r ≡ 0) where
+  last-one : 30 ≤ operationOf r → operationOf r ≡ 30
+  last-one h = let (low, high) = form-operation r f in omega arith
+
   pub outcome-good : outcomeOf l r .number ≡ 0 → Good (outcomeOf l r .image)
   unfolding outcomeOf balanceOutcome effectiveOutcome accountOutcome approvedOutcome compliantOutcome
   outcome-good =
-      chosen (λ (x : Outcome). x .number ≡ 0 → Good (x .image)) (operationOf r) (operations l r) l (
+      chosen (λ (x : Outcome). x .number ≡ 0 → Good (x .image)) (operationOf r) (1, initialize l r) (operations l r) (form-operation r f .0) (operations-consecutive l r) (
         λ o z. initialize-owed .good l r g (formed-as 1 r f o) z,
         (
           λ o z. deposit-owed .good l r g (formed-as 2 r f o) z,
@@ -119,10 +137,7 @@ module _ (l r : List ℕ) (g : Good l) (f : formNumber r ≡ 0) where
                                                               λ o z. g,
                                                               (
                                                                 λ o z. outside-move-owed .good l r g (formed-as 29 r f o) z,
-                                                                (
-                                                                  λ o z. freeze-owed .good l r g (formed-as 30 r f o) z,
-                                                                  tt,
-                                                                ),
+                                                                λ o z. freeze-owed .good l r g (formed-as 30 r f (last-one o)) z,
                                                               ),
                                                             ),
                                                           ),
@@ -152,7 +167,6 @@ module _ (l r : List ℕ) (g : Good l) (f : formNumber r ≡ 0) where
           ),
         ),
       )
-      (λ z. g)
 
   module _ (b : Book) (m : BookIs b l) (v : view r ≡ false) where
     no-view : (k : ℕ) → operationOf r ≡ k → isView k ≡ true → ⊥
@@ -162,7 +176,7 @@ module _ (l r : List ℕ) (g : Good l) (f : formNumber r ≡ 0) where
     pub outcome-booked : outcomeOf l r .number ≡ 0 → BookIs (enterBook b r (eventBuffer (outcomeOf l r .events))) (outcomeOf l r .image)
     unfolding outcomeOf isView member
     outcome-booked =
-        chosen (λ (x : Outcome). x .number ≡ 0 → BookIs (enterBook b r (eventBuffer (x .events))) (x .image)) (operationOf r) (operations l r) l (
+        chosen (λ (x : Outcome). x .number ≡ 0 → BookIs (enterBook b r (eventBuffer (x .events))) (x .image)) (operationOf r) (1, initialize l r) (operations l r) (form-operation r f .0) (operations-consecutive l r) (
           λ o z. initialize-owed .booked b l r g (formed-as 1 r f o) z m,
           (
             λ o z. deposit-owed .booked b l r g (formed-as 2 r f o) z m,
@@ -220,10 +234,7 @@ module _ (l r : List ℕ) (g : Good l) (f : formNumber r ≡ 0) where
                                                                 λ o z. absurd (no-view 28 o refl),
                                                                 (
                                                                   λ o z. outside-move-owed .booked b l r g (formed-as 29 r f o) z m,
-                                                                  (
-                                                                    λ o z. freeze-owed .booked b l r g (formed-as 30 r f o) z m,
-                                                                    tt,
-                                                                  ),
+                                                                  λ o z. freeze-owed .booked b l r g (formed-as 30 r f (last-one o)) z m,
                                                                 ),
                                                               ),
                                                             ),
@@ -253,4 +264,3 @@ module _ (l r : List ℕ) (g : Good l) (f : formNumber r ≡ 0) where
             ),
           ),
         )
-        (λ z. absurd (omega arith))

@@ -1,12 +1,17 @@
--- Demand 3 for this vault, over its step: any list of calls, the book, and the customer's equation.
+-- Demands 1 and 3 for this vault, over its step: any bytes one answer; any list of calls, the book, and the customer's equation.
 use mathlib.Core.Path.{_≡_}
-use mathlib.Core.List.{List}
+use mathlib.Core.Bool.{Bool, true, _&&_, _||_}
+use mathlib.Core.List.{List, []}
 use Prim.Native.Nat.{ℕ, _≤_, _<_}
+use lib.Dec.{ltb}
 use lib.IntN.{ℤ, pos, _+ℤ_, _-ℤ_}
+use lib.ListN.{replicate}
+use Rattle.fields.specs.Rules.{pick}
 use Rattle.history.specs.Kept.{run, kept, total, SameAsKept}
 use Rattle.history.specs.Owed.{GoodState}
-use Rattle.journal.specs.Calls.{Call, operation, State, Answer}
-use Rattle.journal.specs.Step.{Opening}
+use Rattle.journal.specs.Calls.{Call, operation, begin, commit, rollback, undo, State, Answer, Step}
+use Rattle.journal.specs.Journal.{fits}
+use Rattle.journal.specs.Step.{vault, blank, Opening}
 use Rattle.book.specs.Book.{Book, vaultHolding, tollValue, openBook, enterBook, BookIs}
 use Rattle.book.specs.Flows.{deposited, movedIn, paidOut, migrated}
 use Rattle.book.specs.Integers.{smaller}
@@ -15,6 +20,50 @@ use Rattle.image.specs.Layout.{cells, defaultToken, destination}
 use Rattle.image.specs.Good.{goodImage}
 use Rattle.token_vault.specs.Vault.{view, vaultStep}
 
+-- ---- demand 1
+-- 0 done, and the refusals that are an operation's own
+abbrev pub isOwn : ℕ → Bool
+isOwn n = ltb n 24
+
+-- the refusals of every call: 30 to 33 and 34; of the journal's calls: 35 to 37
+abbrev pub isCommon : ℕ → Bool
+isCommon n = ltb 29 n && ltb n 38
+
+-- 30 to 33 leave the event buffer as it was lent
+abbrev pub leavesBuffer : ℕ → Bool
+leavesBuffer n = ltb 29 n && ltb n 34
+
+-- the event buffer after the refusal n: as lent, or blank. Begin, commit, rollback and undo have none
+abbrev pub bufferAfter : ℕ → Call → List ℕ
+bufferAfter n (operation r e) = pick (leavesBuffer n) e blank
+bufferAfter n begin = []
+bufferAfter n commit = []
+bufferAfter n rollback = []
+bufferAfter n undo = []
+
+-- what a refused call c at s left: image and journal as they were, value and event count 0
+pub record Refused (s : State) (c : Call) (x : Step) : Type 0 where
+  pub unchanged : x .state ≡ s
+  pub no-value : x .answer .value ≡ 0
+  pub no-event : x .answer .count ≡ 0
+  pub buffer : x .answer .events ≡ bufferAfter (x .answer .number) c
+
+-- the same answer, event bytes and image
+pub record SameCall (x y : Step) : Type 0 where
+  pub answer : x .answer ≡ y .answer
+  pub image : x .state .image ≡ y .state .image
+
+-- any image, any journal and any call, with any record and any event buffer
+pub record Demand1 : Type 0 where
+  -- done, or one numbered refusal
+  pub numbered : (s : State) (c : Call) → isOwn (vaultStep s c .answer .number) || isCommon (vaultStep s c .answer .number) ≡ true
+  pub refused : (s : State) (c : Call) → (vaultStep s c .answer .number ≡ 0 → ⊥) → Refused s c (vaultStep s c)
+  -- at a closed journal an operation's answer, events and image do not depend on its length, and it stays closed
+  pub closed : (l r e : List ℕ) (m n : ℕ) → fits m ≡ true → fits n ≡ true
+      → SameCall (vaultStep (vault l (replicate m 0)) (operation r e)) (vaultStep (vault l (replicate n 0)) (operation r e))
+  pub stays-closed : (l r e : List ℕ) (n : ℕ) → fits n ≡ true → vaultStep (vault l (replicate n 0)) (operation r e) .state .journal ≡ replicate n 0
+
+-- ---- demand 3
 -- the book is fed the record of a kept operation and the events that the second vault wrote for it
 abbrev pub enter : Book → List ℕ → Answer → Book
 enter b r a = enterBook b r (a .events)

@@ -5,8 +5,9 @@ use Prim.Native.Nat.{ℕ, _+_}
 use lib.ListN.{replicate}
 use Rattle.fields.specs.Rules.{pick}
 use Rattle.image.specs.Layout.{cells}
+use Rattle.image.specs.Good.{goodImage}
 use Rattle.journal.specs.Calls.{Step, Done}
-use Rattle.journal.specs.Journal.{contentsOf, room, journalAfter}
+use Rattle.journal.specs.Journal.{contentsOf, goodJournal, room, journalAfter}
 use Rattle.outcome.specs.declared.Answer.{Answer}
 use Rattle.events.specs.Splice.{amountBytes}
 use Rattle.amount.specs.Biased.{bias, biased}
@@ -48,6 +49,10 @@ pub record Replies (s : Step) (a : Answer) (events image journal : List ℕ) : T
   pub entered : journal ≡ s .state .journal
 
 -- ---- the parts of a call
+-- 30 image not good, 31 journal not good
+unfoldable pub stateNumber : (l j : List ℕ) → ℕ
+stateNumber l j = pick (goodImage l) (pick (goodJournal cells j) 0 31) 30
+
 -- an answer that is not written out yet, with the bytes of the event buffer
 pub record Answers (d : Rattle.journal.specs.Calls.Answer) (a : Answer) (events : List ℕ) : Type 0 where
   pub numbered : a .number ≡ d .number

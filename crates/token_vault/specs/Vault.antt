@@ -18,7 +18,7 @@ use Rattle.handover.specs.Handover.{proposeOwner, acceptOwner, setOwnerProposal
 use Rattle.migration.specs.Migration.{initiateEmergencyMigration, executeEmergencyMigration, cancelEmergencyMigration}
 use Rattle.views.specs.Views.{balance, effectiveWithdrawLimit, getTokenAccountBalance, isTokenApproved, isTokenCompliant}
 use Rattle.moves.specs.Outside.{outsideMove, freeze}
-use Rattle.outcome.specs.Outcome.{Outcome, views}
+use Rattle.outcome.specs.Outcome.{Outcome}
 use Rattle.events.specs.Event.{eventBuffer, bufferNumber}
 use Rattle.record.specs.Form.{isView, formNumber}
 use Rattle.record.specs.Record.{operationOf}
@@ -26,11 +26,10 @@ use Rattle.image.specs.Layout.{cells}
 use Rattle.image.specs.Good.{goodImage}
 use Rattle.fields.specs.Rules.{pick, chain}
 
--- the operations by their numbers; l is the image, r the record
+-- the operations by their numbers, from 2 on; l is the image, r the record
 abbrev pub operations : List ℕ → List ℕ → List (ℕ × Outcome)
 operations l r =
-    (1, initialize l r)
-    ∷ (2, deposit l r)
+    (2, deposit l r)
     ∷ (3, depositWithFee l r)
     ∷ (4, batchDeposit l r)
     ∷ (5, withdraw l r)
@@ -61,13 +60,13 @@ operations l r =
     ∷ (30, freeze l r)
     ∷ []
 
--- the outcome beside a number, and 32 where there is none
-abbrev pub outcomeAt : ℕ → List (ℕ × Outcome) → List ℕ → Outcome
-outcomeAt o [] l = views 32 0 l
-outcomeAt o (row ∷ rows) l = pick (eqb o (row .0)) (row .1) (outcomeAt o rows l)
+-- the outcome of the row that has the number. The last row takes what is left: 32 has refused each number that no row has
+abbrev pub outcomeAt : ℕ → ℕ × Outcome → List (ℕ × Outcome) → Outcome
+outcomeAt o row [] = row .1
+outcomeAt o row (next ∷ rows) = pick (eqb o (row .0)) (row .1) (outcomeAt o next rows)
 
 unfoldable pub outcomeOf : List ℕ → List ℕ → Outcome
-outcomeOf l r = outcomeAt (operationOf r) (operations l r) l
+outcomeOf l r = outcomeAt (operationOf r) (1, initialize l r) (operations l r)
 
 -- 32, then 33
 unfoldable pub callNumber : (r e : List ℕ) → ℕ

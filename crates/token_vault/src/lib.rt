@@ -17,8 +17,8 @@ ghost use Rattle.journal.specs.Calls.{Call};
 ghost use Rattle.journal.specs.Journal.{goodJournal};
 ghost use Rattle.journal.specs.Step.{vault, operated};
 ghost use Rattle.token_vault.specs.Vault.{outcomeOf, callNumber, op, vaultStep};
-ghost use Rattle.token_vault.specs.Demand.{Demand3};
-ghost use Rattle.token_vault.specs.Public.{CallIs, CallAlone, closedJournal, JournalIs, Replies, Answers, Tries, Keeps};
+ghost use Rattle.token_vault.specs.Demand.{Demand1, Demand3};
+ghost use Rattle.token_vault.specs.Public.{CallIs, CallAlone, closedJournal, JournalIs, Replies, Answers, Tries, stateNumber, keptNumber, keptJournal, Keeps};
 
 fn operate(img: &mut [u8], rec: &[u8], events: &mut [u8]) -> Answer
     requires { ⌜ Good (now img) × (formNumber (now rec) ≡ 0) × (isView (operationOf (now rec)) ≡ false) × (now events ≡ eventBuffer []) × (length (now rec) ≡ 448) ⌝ }
@@ -50,8 +50,7 @@ fn operate(img: &mut [u8], rec: &[u8], events: &mut [u8]) -> Answer
         22 => migration::execute_emergency_migration(img, rec, events),
         23 => migration::cancel_emergency_migration(img, rec, events),
         29 => moves::outside_move(img, rec, events),
-        30 => moves::freeze(img, rec, events),
-        _ => outcome::refuse(32),
+        _ => moves::freeze(img, rec, events),
     }
 }
 
@@ -65,8 +64,7 @@ fn look(img: &[u8], rec: &[u8]) -> Answer
         25 => views::effective_withdraw_limit(img, rec),
         26 => views::get_token_account_balance(img, rec),
         27 => views::is_token_approved(img, rec),
-        28 => views::is_token_compliant(img, rec),
-        _ => outcome::refuse(32),
+        _ => views::is_token_compliant(img, rec),
     }
 }
 
@@ -118,20 +116,30 @@ fn try_operation(copy: &mut [u8], rec: &[u8], events: &mut [u8]) -> Answer
     a
 }
 
-// What an accepted operation left goes to the image, and in an open journal its changed cells are entered: 34 where there is no room.
+// 34 where an open journal has no room for the cells in which the copy differs from the image; else they are entered. A closed journal stays.
+fn enter_changes(image: &[u8], copy: &[u8], journal: &mut [u8]) -> u8
+    requires { ⌜ (length (now image) ≡ imageLength) × (length (now copy) ≡ imageLength) × (goodJournal cells (now journal) ≡ true) ⌝ }
+    ensures { λ r. ⌜ (r ≡ keptNumber (now (image .entry)) (now (copy .entry)) (now (journal .entry))) × (now (journal .exit) ≡ keptJournal (now (image .entry)) (now (copy .entry)) (now (journal .entry))) ⌝ }
+{
+    if !journal::is_open(journal) {
+        return 0;
+    }
+    if !journal::enter(image, copy, journal, 2302) {
+        return 34;
+    }
+    0
+}
+
+// What an accepted operation left goes to the image, unless 34 refuses it.
 fn keep(image: &mut [u8], journal: &mut [u8], copy: &[u8]) -> u8
     requires { ⌜ (length (now image) ≡ imageLength) × (length (now copy) ≡ imageLength) × (goodJournal cells (now journal) ≡ true) ⌝ }
     ensures { λ r. ⌜ Keeps (now (image .entry)) (now (copy .entry)) (now (journal .entry)) r (now (image .exit)) (now (journal .exit)) ⌝ }
 {
-    if journal::is_open(journal) {
-        if !journal::enter(image, copy, journal, 2302) {
-            return 34;
-        }
+    let k = enter_changes(image, copy, journal);
+    if k == 0 {
         fields::copy_bytes(copy, image);
-        return 0;
     }
-    fields::copy_bytes(copy, image);
-    0
+    k
 }
 
 fn run_operation(image: &mut [u8], journal: &mut [u8], rec: &[u8], events: &mut [u8]) -> Answer
@@ -153,22 +161,33 @@ fn run_operation(image: &mut [u8], journal: &mut [u8], rec: &[u8], events: &mut 
     a
 }
 
+// 30, 31.
+fn state_check(image: &[u8], journal: &[u8]) -> u8
+    ensures { λ r. ⌜ r ≡ stateNumber (now (image .entry)) (now (journal .entry)) ⌝ }
+{
+    if !image::good_image(image) {
+        return 30;
+    }
+    if !journal::good_journal(journal, 2302) {
+        return 31;
+    }
+    0
+}
+
 fn answer_call(image: &mut [u8], journal: &mut [u8], rec: &[u8], events: &mut [u8]) -> Answer
     ensures { λ r. ⌜ Replies (vaultStep (vault (now (image .entry)) (now (journal .entry))) (Call.operation (now (rec .entry)) (now (events .entry)))) r (now (events .exit)) (now (image .exit)) (now (journal .exit)) ⌝ }
 {
-    if !image::good_image(image) {
-        return refusal(30);
-    }
-    if !journal::good_journal(journal, 2302) {
-        return refusal(31);
-    }
-    let k1 = record::form_check(rec);
+    let k1 = state_check(image, journal);
     if k1 != 0 {
         return refusal(k1);
     }
-    let k2 = events::buffer_check(events);
+    let k2 = record::form_check(rec);
     if k2 != 0 {
         return refusal(k2);
+    }
+    let k3 = events::buffer_check(events);
+    if k3 != 0 {
+        return refusal(k3);
     }
     if record::is_view(record::operation(rec)) {
         return run_view(image, rec, events);
@@ -211,11 +230,9 @@ pub fn call_without_journal(
 pub fn begin(image: &mut [u8], journal: &mut [u8]) -> u32
     ensures { λ r. ⌜ JournalIs (vaultStep (vault (now (image .entry)) (now (journal .entry))) Call.begin) r (now (image .exit)) (now (journal .exit)) ⌝ }
 {
-    if !image::good_image(image) {
-        return 30;
-    }
-    if !journal::good_journal(journal, 2302) {
-        return 31;
+    let k = state_check(image, journal);
+    if k != 0 {
+        return k as u32;
     }
     journal::begin(journal) as u32
 }
@@ -223,11 +240,9 @@ pub fn begin(image: &mut [u8], journal: &mut [u8]) -> u32
 pub fn commit(image: &mut [u8], journal: &mut [u8]) -> u32
     ensures { λ r. ⌜ JournalIs (vaultStep (vault (now (image .entry)) (now (journal .entry))) Call.commit) r (now (image .exit)) (now (journal .exit)) ⌝ }
 {
-    if !image::good_image(image) {
-        return 30;
-    }
-    if !journal::good_journal(journal, 2302) {
-        return 31;
+    let k = state_check(image, journal);
+    if k != 0 {
+        return k as u32;
     }
     journal::commit(journal) as u32
 }
@@ -235,11 +250,9 @@ pub fn commit(image: &mut [u8], journal: &mut [u8]) -> u32
 pub fn rollback(image: &mut [u8], journal: &mut [u8]) -> u32
     ensures { λ r. ⌜ JournalIs (vaultStep (vault (now (image .entry)) (now (journal .entry))) Call.rollback) r (now (image .exit)) (now (journal .exit)) ⌝ }
 {
-    if !image::good_image(image) {
-        return 30;
-    }
-    if !journal::good_journal(journal, 2302) {
-        return 31;
+    let k = state_check(image, journal);
+    if k != 0 {
+        return k as u32;
     }
     journal::rollback(image, journal, 2302) as u32
 }
@@ -247,13 +260,18 @@ pub fn rollback(image: &mut [u8], journal: &mut [u8]) -> u32
 pub fn undo(image: &mut [u8], journal: &mut [u8]) -> u32
     ensures { λ r. ⌜ JournalIs (vaultStep (vault (now (image .entry)) (now (journal .entry))) Call.undo) r (now (image .exit)) (now (journal .exit)) ⌝ }
 {
-    if !image::good_image(image) {
-        return 30;
-    }
-    if !journal::good_journal(journal, 2302) {
-        return 31;
+    let k = state_check(image, journal);
+    if k != 0 {
+        return k as u32;
     }
     journal::undo(image, journal, 2302) as u32
+}
+
+// Demand 1 of this vault, over the step that the contracts above cite.
+pub fn demand_one() -> u32
+    ensures { λ r. ⌜ Demand1 ⌝ }
+{
+    1
 }
 
 // Demand 3 of this vault, over the step that the contracts above cite.

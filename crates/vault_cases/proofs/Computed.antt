@@ -9,7 +9,7 @@ use Rattle.fields.specs.Rules.{verdict, chain, orElse}
 use Rattle.amount.specs.Biased.{bias, amountAt, putAmount}
 use Rattle.record.specs.Form.{member, readsCaller, readsToken, readsOther, readsFlag, readsItems, isView, itemsWithin, headExceeds, itemsExceed, formNumber}
 use Rattle.events.specs.Kinds.{operatorWithdrawLimitSetEvent}
-use Rattle.checks.specs.Checks.{flag, inSet, pausedNumber, signedNumber, initialisedNumber, notOwnerNumber, ownerNumber, insider, notInsiderNumber, sharedNumber, amountNumber, maxVaultDeposit, maxDepositNumber, depositAmountNumber, approvedNumber, limitNumber, capNumber, fundsNumber}
+use Rattle.checks.specs.Checks.{flag, inSet, pausedNumber, signedNumber, initialisedNumber, ownerRoleNumber, notOwnerNumber, ownerNumber, insider, notInsiderNumber, insiderRoleNumber, sharedNumber, amountNumber, maxVaultDeposit, maxDepositNumber, depositAmountNumber, approvedNumber, limitNumber, capNumber, fundsNumber}
 use Rattle.image.specs.Layout.{credit}
 use Rattle.image.specs.Good.{tracked}
 use Rattle.fields.specs.Same.{sameBytes}
@@ -141,11 +141,11 @@ unfolding imageOf request requestOf creditFull credited depositsToken expectedNu
 deposits-token-1 = record { formed = refl; number = refl }
 
 pub limit-99 : (z : List ℕ) → Refuses (paperBytes z) (setsLimit 5 99) 5
-unfolding imageOf request requestOf limitSetOutcome limitSetNumber belowHoldingNumber limitRoleNumber outcomeOf formNumber headExceeds itemsExceed itemsWithin readsCaller readsToken readsOther readsFlag readsItems isView member view bytes flag inSet pausedNumber signedNumber initialisedNumber notOwnerNumber ownerNumber insider notInsiderNumber sharedNumber amountNumber maxVaultDeposit depositAmountNumber approvedNumber limitNumber capNumber fundsNumber verdict chain orElse all _and_ _or_ bias amountAt putAmount put le
+unfolding imageOf request requestOf limitSetOutcome limitSetNumber belowHoldingNumber limitRoleNumber ownerRoleNumber insiderRoleNumber outcomeOf formNumber headExceeds itemsExceed itemsWithin readsCaller readsToken readsOther readsFlag readsItems isView member view bytes flag inSet pausedNumber signedNumber initialisedNumber notOwnerNumber ownerNumber insider notInsiderNumber sharedNumber amountNumber maxVaultDeposit depositAmountNumber approvedNumber limitNumber capNumber fundsNumber verdict chain orElse all _and_ _or_ bias amountAt putAmount put le
 limit-99 z = record { formed = refl; number = refl }
 
 pub limit-100 : (z : List ℕ) → Refuses (paperBytes z) (setsLimit 5 100) 2
-unfolding imageOf request requestOf limitSetOutcome limitSetNumber belowHoldingNumber limitRoleNumber outcomeOf formNumber headExceeds itemsExceed itemsWithin readsCaller readsToken readsOther readsFlag readsItems isView member view bytes flag inSet pausedNumber signedNumber initialisedNumber notOwnerNumber ownerNumber insider notInsiderNumber sharedNumber amountNumber maxVaultDeposit depositAmountNumber approvedNumber limitNumber capNumber fundsNumber verdict chain orElse all _and_ _or_ bias amountAt putAmount put le
+unfolding imageOf request requestOf limitSetOutcome limitSetNumber belowHoldingNumber limitRoleNumber ownerRoleNumber insiderRoleNumber outcomeOf formNumber headExceeds itemsExceed itemsWithin readsCaller readsToken readsOther readsFlag readsItems isView member view bytes flag inSet pausedNumber signedNumber initialisedNumber notOwnerNumber ownerNumber insider notInsiderNumber sharedNumber amountNumber maxVaultDeposit depositAmountNumber approvedNumber limitNumber capNumber fundsNumber verdict chain orElse all _and_ _or_ bias amountAt putAmount put le
 limit-100 z = record { formed = refl; number = refl }
 
 pub pays-5 : (z : List ℕ) → Accepts (paperBytes z) (paysTo 4 5) 0 1

@@ -161,8 +161,8 @@ module _ (n : ℕ) (f : fits n ≡ true) where
       (accepts n f _ (initiates 4) g1 (ask (executesAt 172800) ∷ ask (depositsIn 7 10) ∷ ask (depositsIn 8 10) ∷ []) (then-initiated creditOfTen)
       (accepts n f _ (executesAt 172800) g2 (ask (depositsIn 7 10) ∷ ask (depositsIn 8 10) ∷ []) (then-executed creditOfTen) (rw (migrated creditOfTen) last)))))
 
-pub cases : (n : ℕ) → fits n ≡ true → 96 ≤ n → Cases n
-cases n f h =
+pub each-case : (n : ℕ) → fits n ≡ true → 96 ≤ n → Cases n
+each-case n f h =
     record {
       opens = record { image-good = test paperImage paper-is-good; length-fits = rw (zeros-long n) f; all-zero = rw (zeros-long n) };
       A-40+60 = does n f (paysTwo 2 40 60) (pays-40-60 noCredit);
@@ -200,4 +200,4 @@ cases n f h =
 -- beside the longest journal
 pub longest : Cases 48024
 unfolding fits _and_
-longest = cases 48024 refl (omega arith)
+longest = each-case 48024 refl (omega arith)

@@ -1,11 +1,13 @@
 -- Document 01's cases A to L, each line an equation of the vault's answers to calls that start at the paper's image.
 use mathlib.Core.Path.{_≡_}
 use mathlib.Core.List.{List, [], _∷_}
-use Prim.Native.Nat.{ℕ, _+_, _-_, _^_}
+use mathlib.Core.Bool.{true}
+use Prim.Native.Nat.{ℕ, _+_, _-_, _^_, _≤_}
 use Rattle.amount.specs.Biased.{bias}
 use Rattle.image.specs.Good.{goodImage}
 use Rattle.image.specs.Layout.{credit}
 use Rattle.journal.specs.Calls.{Call, begin, undo, State, Answer}
+use Rattle.journal.specs.Journal.{fits}
 use Rattle.journal.specs.Step.{Opening}
 use Rattle.history.specs.Kept.{run}
 use Rattle.token_vault.specs.Vault.{vaultStep}
@@ -74,3 +76,9 @@ pub record Cases (n : ℕ) : Type 0 where
   pub L-answers : answers (paper n) (begin ∷ ask (paysTo 4 5) ∷ undo ∷ []) ≡ done 0 0 ∷ done 0 1 ∷ done 0 0 ∷ []
   pub L-image : after (paper n) (begin ∷ ask (paysTo 4 5) ∷ undo ∷ []) ≡ paperImage
   pub L-state : run vaultStep (paper n) (begin ∷ ask (paysTo 4 5) ∷ undo ∷ []) ≡ run vaultStep (paper n) (begin ∷ [])
+
+-- the table, for a journal of any length that has room for three entries
+pub record CasesHold : Type 0 where
+  pub every : (n : ℕ) → fits n ≡ true → 96 ≤ n → Cases n
+  -- among them the longest journal
+  pub longest : Cases 48024

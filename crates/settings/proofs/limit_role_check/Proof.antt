@@ -15,19 +15,19 @@ read-amount-requires c κs = search needs
 below-requires : tie.Need-below-requires
 below-requires c κs = search needs
 
-owner-check-requires : tie.Need-owner-check-requires
-owner-check-requires c κs = search needs
+owner-role-check-requires : tie.Need-owner-role-check-requires
+owner-role-check-requires c κs = search needs
 
 returns : tie.Need-returns
 unfolding limitRoleNumber
-returns c = let x = c .before .before .before .before .before .args in let h : vaultLimit (x .img .now) < biased (x .n) = omega arith in rw (lt-ltb (vaultLimit (x .img .now)) (biased (x .n)) h) (c .owner-check .ensures)
+returns c = let x = c .before .before .before .before .before .args in let h : vaultLimit (x .img .now) < biased (x .n) = omega arith in rw (lt-ltb (vaultLimit (x .img .now)) (biased (x .n)) h) (c .owner-role-check .ensures)
 
-insider-check-requires : tie.Need-insider-check-requires
-insider-check-requires c κs = search needs
+insider-role-check-requires : tie.Need-insider-role-check-requires
+insider-role-check-requires c κs = search needs
 
 returns-2 : tie.Need-returns-2
 unfolding limitRoleNumber
-returns-2 c = let x = c .before .before .before .before .before .args in let h : biased (x .n) ≤ vaultLimit (x .img .now) = omega arith in rw (le-ltb (vaultLimit (x .img .now)) (biased (x .n)) h) (c .insider-check .ensures)
+returns-2 c = let x = c .before .before .before .before .before .args in let h : biased (x .n) ≤ vaultLimit (x .img .now) = omega arith in rw (le-ltb (vaultLimit (x .img .now)) (biased (x .n)) h) (c .insider-role-check .ensures)
 
 pub limit-role-check-spec : {M : Type 1} → statement M
 limit-role-check-spec =
@@ -35,7 +35,7 @@ limit-role-check-spec =
     (tie.spec
     read-amount-requires
     below-requires
-    owner-check-requires
+    owner-role-check-requires
     returns
-    insider-check-requires
+    insider-role-check-requires
     returns-2)

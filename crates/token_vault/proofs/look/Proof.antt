@@ -1,5 +1,5 @@
 -- `token_vault::look` meets its contract.
-use Rattle.token_vault.proofs.Dispatched.{no-view}
+use Rattle.token_vault.proofs.Dispatched.{rest-is-28}
 use Rattle.token_vault.specs.Vault.{outcomeOf}
 use Rattle.outcome.specs.Outcome.{formed-as}
 use Rattle.record.specs.Form.{isView}
@@ -24,10 +24,7 @@ is-token-approved-requires : tie.Need-is-token-approved-requires
 is-token-approved-requires c κs = let s = c .before .before .before .before in (s .pre .0, formed-as 27 (s .args .rec .now) (s .pre .1) (sym (c .before .operation .ensures) ∙ c .match .keys4))
 
 is-token-compliant-requires : tie.Need-is-token-compliant-requires
-is-token-compliant-requires c κs = let s = c .before .before .before .before in (s .pre .0, formed-as 28 (s .args .rec .now) (s .pre .1) (sym (c .before .operation .ensures) ∙ c .match .keys5))
-
-refuse-requires : tie.Need-refuse-requires
-refuse-requires c κs = search needs
+is-token-compliant-requires c κs = let s = c .before .before .before .before in let e = c .before .operation .ensures in (s .pre .0, formed-as 28 (s .args .rec .now) (s .pre .1) (sym e ∙ rest-is-28 _ (ap isView e ∙ s .pre .2) (c .match .rest)))
 
 returns : tie.Need-returns
 unfolding outcomeOf
@@ -47,11 +44,7 @@ returns-4 c = rw (sym (c .before .before .operation .ensures) ∙ c .before .mat
 
 returns-5 : tie.Need-returns-5
 unfolding outcomeOf
-returns-5 c = rw (sym (c .before .before .operation .ensures) ∙ c .before .match .keys5) (c .is-token-compliant .ensures)
-
-returns-6 : tie.Need-returns-6
-unfolding outcomeOf
-returns-6 c = let s = c .before .before .before .before .before in let r = c .before .match .rest in absurd (no-view (c .before .before .operation .result) (r .0 .0 .0 .0 .1) (r .0 .0 .0 .1) (r .0 .0 .1) (r .0 .1) (r .1) (ap isView (c .before .before .operation .ensures) ∙ s .pre .2))
+returns-5 c = let e = c .before .before .operation .ensures in rw (sym e ∙ rest-is-28 _ (ap isView e ∙ c .before .before .before .before .before .pre .2) (c .before .match .rest)) (c .is-token-compliant .ensures)
 
 pub look-spec : {M : Type 1} → statement M
 look-spec =
@@ -63,10 +56,8 @@ look-spec =
     get-token-account-balance-requires
     is-token-approved-requires
     is-token-compliant-requires
-    refuse-requires
     returns
     returns-2
     returns-3
     returns-4
-    returns-5
-    returns-6)
+    returns-5)

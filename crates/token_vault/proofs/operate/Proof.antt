@@ -1,11 +1,10 @@
 -- `token_vault::operate` meets its contract.
-use Rattle.token_vault.proofs.Dispatched.{not-view}
+use Rattle.token_vault.proofs.Dispatched.{rest-is-30}
 use Rattle.token_vault.specs.Vault.{outcomeOf}
-use Rattle.outcome.specs.Outcome.{formed-as, refused}
-use borrow.Author.Tests.{ne-eqb}
-use mathlib.Core.Path.{refl, sym, ap, _∙_}
+use Rattle.outcome.specs.Outcome.{formed-as}
+use Rattle.record.specs.Laws.{form-operation}
+use mathlib.Core.Path.{sym, ap, _∙_}
 use Rattle.record.specs.Form.{isView}
-use native.Mathlib.Omega.{arith}
 use borrow.Author.Needs.{needs}
 use Rattle.token_vault.proofs.operate.Statement.{statement}
 use Rattle.token_vault.proofs.operate.Tie as tie
@@ -86,10 +85,7 @@ outside-move-requires : tie.Need-outside-move-requires
 outside-move-requires c κs = let s = c .before .before .before .before .before .before .before in (s .pre .0, formed-as 29 (s .args .rec .now) (s .pre .1) (sym (c .before .before .before .operation .ensures) ∙ c .before .before .match .keys24), s .pre .3)
 
 freeze-requires : tie.Need-freeze-requires
-freeze-requires c κs = let s = c .before .before .before .before .before .before .before in (s .pre .0, formed-as 30 (s .args .rec .now) (s .pre .1) (sym (c .before .before .before .operation .ensures) ∙ c .before .before .match .keys25), s .pre .3)
-
-refuse-requires : tie.Need-refuse-requires
-refuse-requires c κs = search needs
+freeze-requires c κs = let s = c .before .before .before .before .before .before .before in let e = c .before .before .before .operation .ensures in (s .pre .0, formed-as 30 (s .args .rec .now) (s .pre .1) (sym e ∙ rest-is-30 _ (ap isView e ∙ s .pre .2) (rw e (form-operation _ (s .pre .1))) (c .before .before .match .rest)), s .pre .3)
 
 same-length : tie.Need-same-length
 same-length c = search needs
@@ -339,11 +335,7 @@ same-length-50 c = search needs
 
 returns-25 : tie.Need-returns-25
 unfolding outcomeOf
-returns-25 c = rw (sym (c .before .before .before .before .before .before .before .before .operation .ensures) ∙ c .before .before .before .before .before .before .before .match .keys25) (c .before .before .before .before .freeze .ensures)
-
-returns-26 : tie.Need-returns-26
-unfolding outcomeOf
-returns-26 c = let s = c .before .before .before .before .before .before in let o = c .before .before .operation .result in let e = c .before .before .operation .ensures in let r = c .before .match .rest in let v = not-view o (ap isView e ∙ s .pre .2) in rw (sym e, ne-eqb o 1 (r .0 .0 .0 .0 .0 .0 .0 .0 .0 .0 .0 .0 .0 .0 .0 .0 .0 .0 .0 .0 .0 .0 .0 .0 .1), ne-eqb o 2 (r .0 .0 .0 .0 .0 .0 .0 .0 .0 .0 .0 .0 .0 .0 .0 .0 .0 .0 .0 .0 .0 .0 .0 .1), ne-eqb o 3 (r .0 .0 .0 .0 .0 .0 .0 .0 .0 .0 .0 .0 .0 .0 .0 .0 .0 .0 .0 .0 .0 .0 .1), ne-eqb o 4 (r .0 .0 .0 .0 .0 .0 .0 .0 .0 .0 .0 .0 .0 .0 .0 .0 .0 .0 .0 .0 .0 .1), ne-eqb o 5 (r .0 .0 .0 .0 .0 .0 .0 .0 .0 .0 .0 .0 .0 .0 .0 .0 .0 .0 .0 .0 .1), ne-eqb o 6 (r .0 .0 .0 .0 .0 .0 .0 .0 .0 .0 .0 .0 .0 .0 .0 .0 .0 .0 .0 .1), ne-eqb o 7 (r .0 .0 .0 .0 .0 .0 .0 .0 .0 .0 .0 .0 .0 .0 .0 .0 .0 .0 .1), ne-eqb o 8 (r .0 .0 .0 .0 .0 .0 .0 .0 .0 .0 .0 .0 .0 .0 .0 .0 .0 .1), ne-eqb o 9 (r .0 .0 .0 .0 .0 .0 .0 .0 .0 .0 .0 .0 .0 .0 .0 .0 .1), ne-eqb o 10 (r .0 .0 .0 .0 .0 .0 .0 .0 .0 .0 .0 .0 .0 .0 .0 .1), ne-eqb o 11 (r .0 .0 .0 .0 .0 .0 .0 .0 .0 .0 .0 .0 .0 .0 .1), ne-eqb o 12 (r .0 .0 .0 .0 .0 .0 .0 .0 .0 .0 .0 .0 .0 .1), ne-eqb o 13 (r .0 .0 .0 .0 .0 .0 .0 .0 .0 .0 .0 .0 .1), ne-eqb o 14 (r .0 .0 .0 .0 .0 .0 .0 .0 .0 .0 .0 .1), ne-eqb o 15 (r .0 .0 .0 .0 .0 .0 .0 .0 .0 .0 .1), ne-eqb o 16 (r .0 .0 .0 .0 .0 .0 .0 .0 .0 .1), ne-eqb o 17 (r .0 .0 .0 .0 .0 .0 .0 .0 .1), ne-eqb o 18 (r .0 .0 .0 .0 .0 .0 .0 .1), ne-eqb o 19 (r .0 .0 .0 .0 .0 .0 .1), ne-eqb o 20 (r .0 .0 .0 .0 .0 .1), ne-eqb o 21 (r .0 .0 .0 .0 .1), ne-eqb o 22 (r .0 .0 .0 .1), ne-eqb o 23 (r .0 .0 .1), v .at-24, v .at-25, v .at-26, v .at-27, v .at-28, ne-eqb o 29 (r .0 .1), ne-eqb o 30 (r .1)) (refused 32 (c .refuse .ensures) refl (λ z. omega arith))
+returns-25 c = let e = c .before .before .before .before .before .before .before .before .operation .ensures in let s = c .before .before .before .before .before .before .before .before .before .before .before .before in rw (sym e ∙ rest-is-30 _ (ap isView e ∙ s .pre .2) (rw e (form-operation _ (s .pre .1))) (c .before .before .before .before .before .before .before .match .rest)) (c .before .before .before .before .freeze .ensures)
 
 pub operate-spec : {M : Type 1} → statement M
 operate-spec =
@@ -375,7 +367,6 @@ operate-spec =
     cancel-emergency-migration-requires
     outside-move-requires
     freeze-requires
-    refuse-requires
     same-length
     same-length-2
     returns
@@ -450,5 +441,4 @@ operate-spec =
     returns-24
     same-length-49
     same-length-50
-    returns-25
-    returns-26)
+    returns-25)
