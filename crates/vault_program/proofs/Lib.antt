@@ -1,2 +1,4 @@
--- What the proof of `answer_record` uses.
+-- Laws that the proofs cite.
 pub mod Printed
+pub mod Short
+pub mod Taken

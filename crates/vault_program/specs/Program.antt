@@ -4,13 +4,12 @@ use mathlib.Core.List.{List, [], append-nil}
 use Prim.Native.Nat.{ℕ, _+_, _-_, _<_}
 use native.Mathlib.Omega.{arith}
 use lib.IntN.{ℤ, pos, subℕ}
-use lib.ListN.{replicate}
 use Rattle.amount.specs.Biased.{bias, amountAt}
 use Rattle.amount.specs.Laws.{subℕ-ge}
 use Rattle.answer_line.specs.Decimal.{line}
 use Rattle.events.specs.Splice.{amountBytes, amountAt-amountBytes}
 use Rattle.journal.specs.Calls.{Answer, Step, Call}
-use Rattle.journal.specs.Step.{vault}
+use Rattle.journal.specs.Step.{vault, blank}
 use Rattle.token_vault.specs.Public.{closedJournal}
 use Rattle.token_vault.specs.Vault.{vaultStep}
 
@@ -22,9 +21,14 @@ signedAt l = subℕ (amountAt l 0) bias
 unfoldable pub answerLine : Answer → List ℕ
 answerLine a = line (a .number) (signedAt (amountBytes (bias + a .value))) (a .count)
 
--- the step of a record r at the image l: no journal, and an event buffer of zeros
+-- the step of a record r at the image l: no journal, and a blank event buffer
 unfoldable pub recordStep : (l r : List ℕ) → Step
-recordStep l r = vaultStep (vault l closedJournal) (Call.operation r (replicate 896 0))
+recordStep l r = vaultStep (vault l closedJournal) (Call.operation r blank)
+
+-- t is the line of some answer
+pub record IsLine (t : List ℕ) : Type 0 where
+  pub answer : Answer
+  pub same : t ≡ answerLine answer
 
 -- text and image are those of the step
 pub record Prints (s : Step) (text image : List ℕ) : Type 0 where

@@ -1,4 +1,5 @@
 -- `answer_record` meets its contract.
+use Rattle.journal.specs.Step.{blank}
 use Rattle.vault_program.specs.Program.{recordStep}
 use Rattle.vault_program.proofs.Printed.{prints}
 use borrow.Author.Needs.{needs}
@@ -21,7 +22,7 @@ same-length : tie.Need-same-length
 same-length c = search needs
 
 returns : tie.Need-returns
-unfolding recordStep
+unfolding recordStep blank
 returns c = let w = c .write-line .ensures in (prints (c .before .before .before .before .before .before .before .call-without-journal .ensures) (c .before .before .read-value .ensures) (w .0), w .1)
 
 pub answer-record-spec : {M : Type 1} → statement M

@@ -1,0 +1,49 @@
+-- `all_lists` meets its contract. The invariant: the count is at most 2 ^ 64 - 1.
+use mathlib.Core.Logic.{inl, inr, ⊎-elim}
+use Prim.Native.Nat.{_-_, _≤_}
+use native.Mathlib.Omega.{arith}
+use borrow.Author.Tests.{not-true}
+use borrow.Author.Needs.{needs}
+use Rattle.token_vault_vectors.proofs.all_lists.Statement.{statement}
+use Rattle.token_vault_vectors.proofs.all_lists.Tie as tie
+
+abbrev Inv-loop : tie.InvT-loop
+Inv-loop taken₀ taken = taken ≤ 18446744073709551615
+
+abbrev μ-loop : tie.MeasureT-loop
+μ-loop taken₀ taken = 18446744073709551615 - taken
+
+loop-holds : tie.Need-loop-holds Inv-loop μ-loop
+loop-holds c = search needs
+
+next-list-requires : tie.Need-next-list-requires Inv-loop μ-loop
+next-list-requires c κs = search needs
+
+returns : tie.Need-returns Inv-loop μ-loop
+returns c = ⊎-elim (λ w. inl (not-true _ (w .taken))) (λ w. inr (inl (not-true _ (w .1 .taken)))) (c .if1 .came)
+
+add-taken : tie.Need-add-taken Inv-loop μ-loop
+add-taken c = search needs
+
+loop-less : tie.Need-loop-less Inv-loop μ-loop
+loop-less c = search needs
+
+loop-again : tie.Need-loop-again Inv-loop μ-loop
+loop-again c = search needs
+
+returns-2 : tie.Need-returns-2 Inv-loop μ-loop
+returns-2 c = inr (inr (omega arith))
+
+pub all-lists-spec : {M : Type 1} → statement M
+all-lists-spec =
+    tie.close
+    (tie.spec
+    Inv-loop
+    μ-loop
+    loop-holds
+    next-list-requires
+    returns
+    add-taken
+    loop-less
+    loop-again
+    returns-2)
