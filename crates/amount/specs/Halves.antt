@@ -155,6 +155,16 @@ lex-lt W h k x y p q = omega (arith, digits-lt p q)
 pub lex-same : (W h k x y : ℕ) → h ≡ k → ltb x y ≡ ltb (h * W + x) (k * W + y)
 lex-same W h k x y e = rw e (ltb-same x y (k * W + x) (k * W + y) (λ l. omega arith) (λ l. omega arith))
 
+-- two halves that make a multiple of W
+pub halves-same : (W a c lo : ℕ) → lo < W → a * W + lo ≡ c * W → (a ≡ c) × (lo ≡ 0)
+halves-same W a c lo b e =
+    let w : 0 < W = omega arith in
+    by-lt a c ((a ≡ c) × (lo ≡ 0))
+    (λ h. absurd (omega (arith, digits-lt h b)))
+    (λ h. by-lt c a ((a ≡ c) × (lo ≡ 0))
+    (λ k. absurd (omega (arith, digits-lt k w)))
+    (λ k. let f : a ≡ c = omega arith in let g : c * W + lo ≡ c * W = rw f at e in (f, omega arith)))
+
 -- and the range
 pub high-in-range : (W H s lo : ℕ) → lo < W → InRange H s → InRange (H * W) (s * W + lo)
 high-in-range W H s lo b (h, k) = (omega (arith, mul-le-mul-right W h), rw (← add-mul H H W, ← add-mul (H + H) H W) (digits-lt k b))

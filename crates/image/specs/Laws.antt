@@ -6,6 +6,7 @@ use Prim.Native.Nat.{ℕ, zero, suc, _+_, _*_, _%_, _^_, _≤_, _<_}
 use native.Mathlib.Nat.{add-zero, add-mul, le-antisymm}
 use native.Mathlib.Numerals.{add-one}
 use native.Mathlib.Omega.{arith}
+use native.Mathlib.Decide.{ℕ-discrete}
 use borrow.Author.Tests.{eqb-true, eqb-false, eq-eqb, ne-eqb, lt-ltb, le-ltb, le-leb, lt-leb, ltb-true, leb-true}
 use lib.Arith.{digits-lt}
 use lib.Dec.{eqb, ltb, leb}
@@ -13,7 +14,7 @@ use lib.ListN.{length, getD, set, replicate, getD-replicate, drop}
 use lib.Seq.{getD-set-same, getD-set-other, drop-drop}
 use Rattle.fields.specs.Bytes.{le, le-below, le-drop, le-split}
 use Rattle.amount.specs.Biased.{amountAt, bias, signOf}
-use Rattle.amount.specs.Laws.{by-lt, bias-parts, sign-below, sign-zero, sign-above}
+use Rattle.amount.specs.Laws.{by-lt, bias-parts, amountAt-zero, sign-below, sign-zero, sign-above}
 use Rattle.image.specs.Layout.{trackedKey, defaultToken}
 use Rattle.fields.specs.Logic.{_and_, _or_, and-l, and-r, and-i, and-false, false-and}
 use Rattle.fields.specs.Zeros.{each}
@@ -95,13 +96,13 @@ sign-two n =
     (λ g. rw (← sign-below n g, le-ltb bias n h))
     (λ g. rw (← sign-zero n (le-antisymm h g), le-ltb bias n h)))
 
-pub sign-one : (n : ℕ) → eqb (signOf n) 1 ≡ eqb n bias
-sign-one n =
-    by-lt bias n (eqb (signOf n) 1 ≡ eqb n bias)
-    (λ h. rw (← sign-above n h, ne-eqb n bias (λ q. omega arith)))
-    (λ h. by-lt n bias (eqb (signOf n) 1 ≡ eqb n bias)
-    (λ g. rw (← sign-below n g, ne-eqb n bias (λ q. omega arith)))
-    (λ g. rw (← sign-zero n (le-antisymm h g), eq-eqb n bias (le-antisymm h g))))
+pub both-zero : (l : List ℕ) (at : ℕ) → ((i : ℕ) → getD l i 0 < 256) → eqb (le 8 l at) 0 and eqb (le 8 l (at + 8)) 0 ≡ eqb (amountAt l at) bias
+both-zero l at h = go (ℕ-discrete (le 8 l at) 0) (ℕ-discrete (le 8 l (at + 8)) 0)
+  where
+    go : Dec (le 8 l at ≡ 0) → Dec (le 8 l (at + 8) ≡ 0) → eqb (le 8 l at) 0 and eqb (le 8 l (at + 8)) 0 ≡ eqb (amountAt l at) bias
+    go (yes p) (yes q) = unfold amountAt _and_ in rw (p, q) (sym (eq-eqb (2 ^ 63 * 2 ^ 64 + 0) bias (add-zero (2 ^ 63 * 2 ^ 64) ∙ sym bias-parts)))
+    go (yes p) (no q) = unfold _and_ in rw (p, ne-eqb (le 8 l (at + 8)) 0 q, ne-eqb (amountAt l at) bias (λ e. q (amountAt-zero l at h e .1)))
+    go (no p) q = rw (ne-eqb (le 8 l at) 0 p, ne-eqb (amountAt l at) bias (λ e. p (amountAt-zero l at h e .0))) (false-and _)
 
 pub sign-some : (n : ℕ) → not (eqb (signOf n) 0) ≡ leb bias n
 sign-some n =

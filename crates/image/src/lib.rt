@@ -87,7 +87,7 @@ fn nothing_at(s: &[u8], at: usize) -> bool
     requires { ⌜ at + 16 ≤ length (now s) ⌝ }
     ensures { λ r. ⌜ r ≡ eqb (amountAt (now (s .entry)) at) bias ⌝ }
 {
-    sign_at(s, at) == 1
+    both(zero64_at(s, at), zero64_at(s, at + 8))
 }
 
 fn not_negative_at(s: &[u8], at: usize) -> bool
