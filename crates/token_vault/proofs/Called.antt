@@ -274,36 +274,39 @@ pub replies : {s : Step} {d : Rattle.journal.specs.Calls.Answer} {a : Answer} {
 replies p d = rw p (record { numbered = d .numbered; valued = d .valued; counted = d .counted; written = d .written; changed = refl; entered = refl })
 
 -- ---- the steps of this vault: 30 and 31 first
-module _ (l j : List ℕ) where
-  pub state-30 : goodImage l ≡ false → 30 ≡ stateNumber l j
-  unfolding stateNumber
-  state-30 g = rw g
+pub state-30 : (b : Bool) (j : List ℕ) → b ≡ false → 30 ≡ stateNumber b j
+unfolding stateNumber
+state-30 b j g = rw g
 
-  pub state-31 : goodImage l ≡ true → goodJournal cells j ≡ false → 31 ≡ stateNumber l j
-  unfolding stateNumber
-  state-31 g h = rw (g, h)
+pub state-31 : (b : Bool) (j : List ℕ) → b ≡ true → goodJournal cells j ≡ false → 31 ≡ stateNumber b j
+unfolding stateNumber
+state-31 b j g h = rw (g, h)
 
-  pub state-0 : goodImage l ≡ true → goodJournal cells j ≡ true → 0 ≡ stateNumber l j
-  unfolding stateNumber
-  state-0 g h = rw (g, h)
+pub state-0 : (b : Bool) (j : List ℕ) → b ≡ true → goodJournal cells j ≡ true → 0 ≡ stateNumber b j
+unfolding stateNumber
+state-0 b j g h = rw (g, h)
 
-  pub good-state : {k : ℕ} → k ≡ stateNumber l j → k ≡ 0 → (goodImage l ≡ true) × (goodJournal cells j ≡ true)
+module _ (l j : List ℕ) {b : Bool} {k : ℕ} (g : b ≡ goodImage l) (p : k ≡ stateNumber b j) where
+  pub good-state : k ≡ 0 → (goodImage l ≡ true) × (goodJournal cells j ≡ true)
   unfolding stateNumber
-  good-state {k} p z = go (goodImage l) (goodJournal cells j) refl refl
+  good-state z = go b (goodJournal cells j) refl refl
     where
-      go : (a b : Bool) → goodImage l ≡ a → goodJournal cells j ≡ b → (goodImage l ≡ true) × (goodJournal cells j ≡ true)
-      go true true f g = (f, g)
-      go true false f g = absurd (let w : 31 ≡ 0 = sym (p ∙ rw (f, g)) ∙ z in omega arith)
-      go false b f g = absurd (let w : 30 ≡ 0 = sym (p ∙ rw f) ∙ z in omega arith)
+      go : (x y : Bool) → b ≡ x → goodJournal cells j ≡ y → (goodImage l ≡ true) × (goodJournal cells j ≡ true)
+      go true true e f = (sym g ∙ e, f)
+      go true false e f = absurd (let w : 31 ≡ 0 = sym (p ∙ rw (e, f)) ∙ z in omega arith)
+      go false y e f = absurd (let w : 30 ≡ 0 = sym (p ∙ rw e) ∙ z in omega arith)
 
-  pub bad-state : {k : ℕ} (c : Call) → k ≡ stateNumber l j → (k ≡ 0 → ⊥) → vaultStep (vault l j) c ≡ reply k (lent c) (vault l j)
+  pub bad-state : (c : Call) → (k ≡ 0 → ⊥) → vaultStep (vault l j) c ≡ reply k (lent c) (vault l j)
   unfolding vaultStep stateNumber
-  bad-state {k} c p n = go (goodImage l) (goodJournal cells j) refl refl
+  bad-state c n = go b (goodJournal cells j) refl refl
     where
-      go : (a b : Bool) → goodImage l ≡ a → goodJournal cells j ≡ b → step cells goodImage op view (vault l j) c ≡ reply k (lent c) (vault l j)
-      go true true f g = absurd (n (p ∙ rw (f, g)))
-      go true false f g = let w : k ≡ 31 = p ∙ rw (f, g) in rw w (step-31 cells goodImage op view (vault l j) c f g)
-      go false b f g = let w : k ≡ 30 = p ∙ rw f in rw w (step-30 cells goodImage op view (vault l j) c f)
+      go : (x y : Bool) → b ≡ x → goodJournal cells j ≡ y → step cells goodImage op view (vault l j) c ≡ reply k (lent c) (vault l j)
+      go true true e f = absurd (n (p ∙ rw (e, f)))
+      go true false e f = let w : k ≡ 31 = p ∙ rw (e, f) in rw w (step-31 cells goodImage op view (vault l j) c (sym g ∙ e) f)
+      go false y e f = let w : k ≡ 30 = p ∙ rw e in rw w (step-30 cells goodImage op view (vault l j) c (sym g ∙ e))
+
+  pub journal-refused : (c : Call) → (k ≡ 0 → ⊥) → JournalIs (vaultStep (vault l j) c) k l j
+  journal-refused c n = rw (bad-state c n) (record { numbered = refl; changed = refl; entered = refl })
 
 module _ (l j r e : List ℕ) where
   module _ (g : goodImage l ≡ true) (h : goodJournal cells j ≡ true) where
@@ -334,9 +337,6 @@ pub journal-step : {s t : Step} {n : ℕ} {x y : List ℕ} → s ≡ t → reply
 journal-step p q =
     let e = q ∙ sym p in
     record { numbered = ap (λ (u : Step). u .answer .number) e; changed = ap (λ (u : Step). u .state .image) e; entered = ap (λ (u : Step). u .state .journal) e }
-
-pub journal-refused : {l j : List ℕ} {k : ℕ} (c : Call) → k ≡ stateNumber l j → (k ≡ 0 → ⊥) → JournalIs (vaultStep (vault l j) c) k l j
-journal-refused {l} {j} c p n = rw (bad-state l j c p n) (record { numbered = refl; changed = refl; entered = refl })
 
 module _ (l j : List ℕ) (g : goodImage l ≡ true) (h : goodJournal cells j ≡ true) where
   pub vault-begin : vaultStep (vault l j) begin ≡ begun (vault l j)

@@ -1,11 +1,11 @@
 -- What the public calls owe: number, value, event count, event bytes, image and journal are those of the step.
 use mathlib.Core.Path.{_≡_}
+use mathlib.Core.Bool.{Bool}
 use mathlib.Core.List.{List}
 use Prim.Native.Nat.{ℕ, _+_}
 use lib.ListN.{replicate}
 use Rattle.fields.specs.Rules.{pick}
 use Rattle.image.specs.Layout.{cells}
-use Rattle.image.specs.Good.{goodImage}
 use Rattle.journal.specs.Calls.{Step, Done}
 use Rattle.journal.specs.Journal.{contentsOf, goodJournal, room, journalAfter}
 use Rattle.outcome.specs.declared.Answer.{Answer}
@@ -50,8 +50,8 @@ pub record Replies (s : Step) (a : Answer) (events image journal : List ℕ) : T
 
 -- ---- the parts of a call
 -- 30 image not good, 31 journal not good
-unfoldable pub stateNumber : (l j : List ℕ) → ℕ
-stateNumber l j = pick (goodImage l) (pick (goodJournal cells j) 0 31) 30
+unfoldable pub stateNumber : (isImageGood : Bool) → (j : List ℕ) → ℕ
+stateNumber isImageGood j = pick isImageGood (pick (goodJournal cells j) 0 31) 30
 
 -- an answer that is not written out yet, with the bytes of the event buffer
 pub record Answers (d : Rattle.journal.specs.Calls.Answer) (a : Answer) (events : List ℕ) : Type 0 where

@@ -6,6 +6,9 @@ use borrow.Author.Needs.{needs}
 use Rattle.token_vault.proofs.rollback.Statement.{statement}
 use Rattle.token_vault.proofs.rollback.Tie as tie
 
+good-image-requires : tie.Need-good-image-requires
+good-image-requires c κs = search needs
+
 state-check-requires : tie.Need-state-check-requires
 state-check-requires c κs = search needs
 
@@ -19,10 +22,10 @@ same-length-2 : tie.Need-same-length-2
 same-length-2 c = search needs
 
 returns : tie.Need-returns
-returns c = journal-refused Call.rollback (c .before .state-check .ensures) (c .if1 .taken)
+returns c = journal-refused _ _ (c .before .before .before .good-image .ensures) (c .before .state-check .ensures) Call.rollback (c .if1 .taken)
 
 rollback-requires : tie.Need-rollback-requires
-rollback-requires c κs = let (g, h) = good-state _ _ (c .before .before .before .state-check .ensures) (c .before .before .if1 .left) in record { long = facts _ g .long; good = h }
+rollback-requires c κs = let (g, h) = good-state _ _ (c .before .before .before .before .before .good-image .ensures) (c .before .before .before .state-check .ensures) (c .before .before .if1 .left) in record { long = facts _ g .long; good = h }
 
 cast-result-2 : tie.Need-cast-result-2
 cast-result-2 c = search needs
@@ -34,12 +37,13 @@ same-length-4 : tie.Need-same-length-4
 same-length-4 c = search needs
 
 returns-2 : tie.Need-returns-2
-returns-2 c = let x = c .before .before .before .before .before .before .before .before .before .before .before .before .before .args in let (g, h) = good-state _ _ (c .before .before .before .before .before .before .before .before .state-check .ensures) (c .before .before .before .before .before .before .before .if1 .left) in journal-step (vault-rollback (x .image .now) (x .journal .now) g h) (c .before .before .before .before .rollback .ensures)
+returns-2 c = let x = c .before .before .before .before .before .before .before .before .before .before .before .before .before .before .args in let (g, h) = good-state _ _ (c .before .before .before .before .before .before .before .before .before .before .good-image .ensures) (c .before .before .before .before .before .before .before .before .state-check .ensures) (c .before .before .before .before .before .before .before .if1 .left) in journal-step (vault-rollback (x .image .now) (x .journal .now) g h) (c .before .before .before .before .rollback .ensures)
 
 pub rollback-spec : {M : Type 1} → statement M
 rollback-spec =
     tie.close
     (tie.spec
+    good-image-requires
     state-check-requires
     cast-result
     same-length

@@ -6,21 +6,18 @@ use borrow.Author.Needs.{needs}
 use Rattle.token_vault.proofs.state_check.Statement.{statement}
 use Rattle.token_vault.proofs.state_check.Tie as tie
 
-good-image-requires : tie.Need-good-image-requires
-good-image-requires c κs = search needs
-
 returns : tie.Need-returns
-returns c = let x = c .before .before .before .before .args in state-30 (x .image .now) (x .journal .now) (sym (c .before .good-image .ensures) ∙ not-true _ (c .if1 .taken))
+returns c = let x = c .before .before .args in state-30 (x .is-image-good) (x .journal .now) (not-true _ (c .if1 .taken))
 
 good-journal-requires : tie.Need-good-journal-requires
 good-journal-requires c κs = search needs
 
 returns-2 : tie.Need-returns-2
-returns-2 c = let x = c .before .before .before .before .before .before .args in state-31 (x .image .now) (x .journal .now) (sym (c .before .before .before .good-image .ensures) ∙ not-false _ (c .before .before .if1 .left)) (sym (c .before .good-journal .ensures) ∙ not-true _ (c .if2 .taken))
+returns-2 c = let x = c .before .before .before .before .args in state-31 (x .is-image-good) (x .journal .now) (not-false _ (c .before .before .if1 .left)) (sym (c .before .good-journal .ensures) ∙ not-true _ (c .if2 .taken))
 
 returns-3 : tie.Need-returns-3
-returns-3 c = let x = c .before .before .before .before .before .before .args in state-0 (x .image .now) (x .journal .now) (sym (c .before .before .before .good-image .ensures) ∙ not-false _ (c .before .before .if1 .left)) (sym (c .before .good-journal .ensures) ∙ not-false _ (c .if2 .left))
+returns-3 c = let x = c .before .before .before .before .args in state-0 (x .is-image-good) (x .journal .now) (not-false _ (c .before .before .if1 .left)) (sym (c .before .good-journal .ensures) ∙ not-false _ (c .if2 .left))
 
 pub state-check-spec : {M : Type 1} → statement M
 state-check-spec =
-    tie.close (tie.spec good-image-requires returns good-journal-requires returns-2 returns-3)
+    tie.close (tie.spec returns good-journal-requires returns-2 returns-3)
