@@ -12,7 +12,7 @@ use Rattle.book.specs.Book.{Book, change, adds, addsItems, BookIs}
 use Rattle.book.specs.Entries.{added, settled}
 use Rattle.book.specs.Integers.{integerOf}
 use Rattle.record.specs.Record.{itemAddress, itemAmount}
-use Rattle.token.specs.Token.{transferRules, transferOf}
+use Rattle.token.specs.Token.{vaultBalance, transferRules, transferOf}
 use Rattle.token.specs.Laws.{transfer-free, good-transfer}
 use Rattle.storage.specs.Kept.{only-recordBalance}
 use Rattle.storage.specs.Facts.{Good}
@@ -84,7 +84,7 @@ transfers-booked (suc n) r t i l g a z e b c m =
 module _ (l r : List ℕ) (signers seq count : ℕ) (g : Good l) (senders : (j : ℕ) → j < count → itemAddress r j < 64) (z : batchOutcome l r signers seq count .number ≡ 0) where
   -- its parts: initialised, the items, the transfers, and the sum arrived whole
   parts : (initialised l ≡ 1) × Items count r 0 × (transfersNumber count r (defaultToken l) 0 l ≡ 0)
-      × (holding (transfersImage count r (defaultToken l) 0 l) (slot (defaultToken l)) 1 ≡ holding l (slot (defaultToken l)) 1 + itemsSum count r 0)
+      × (holding (transfersImage count r (defaultToken l) 0 l) (slot (defaultToken l)) 1 ≡ vaultBalance l + itemsSum count r 0)
   unfolding batchOutcome batchChecks collectOutcome
   parts =
       let u = unlinked _ z in

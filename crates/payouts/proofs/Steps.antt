@@ -9,10 +9,10 @@ use lib.Dec.{leb}
 use Rattle.checks.specs.Checks.{pausedNumber, sharedNumber, amountNumber, capNumber, fundsNumber}
 use Rattle.events.specs.Kinds.{withdrawnEvent}
 use Rattle.events.specs.Event.{EventFields, putEvent}
-use Rattle.token.specs.Token.{transferNumber, transferOf, transferred}
+use Rattle.token.specs.Token.{vaultBalance, transferNumber, transferOf, transferred}
 use Rattle.token.specs.Laws.{transfer-free, transfer-done}
 use Rattle.storage.specs.Setters.{setCredit, recordBalance}
-use Rattle.image.specs.Layout.{slot, defaultToken, holding, credit}
+use Rattle.image.specs.Layout.{slot, holding, credit}
 use Rattle.amount.specs.Biased.{bias}
 use Rattle.fields.specs.Rules.{pick, verdict, stop-at, orElse, or-none, chain, link-at}
 use Rattle.payouts.specs.Laws.{items-length}
@@ -60,7 +60,7 @@ unfolding noItemNumber
 one-none p ps = sym (stop-at (noItemRules (p ∷ ps)) 1 0 (omega arith, tt) refl)
 
 pub one-checks : (l : List ℕ) (caller signers to n : ℕ) → n < bias + bias
-    → chain (pausedNumber l ∷ sharedNumber l caller signers ∷ amountNumber n ∷ capNumber l caller n ∷ fundsNumber (holding l (slot (defaultToken l)) 1) n ∷ [])
+    → chain (pausedNumber l ∷ sharedNumber l caller signers ∷ amountNumber n ∷ capNumber l caller n ∷ fundsNumber (vaultBalance l) n ∷ [])
     ≡ withdrawChecks l caller signers (payout to n ∷ [])
 unfolding withdrawChecks chain orElse
 one-checks l caller signers to n b = rw (one-none (payout to n) [], one-sum to n, ← one-item to n b refl)

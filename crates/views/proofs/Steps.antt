@@ -6,7 +6,8 @@ use native.Mathlib.Omega.{arith}
 use borrow.Author.Tests.{eq-eqb, ne-eqb, lt-ltb, le-ltb}
 use Rattle.storage.specs.Facts.{Good}
 use Rattle.storage.specs.Writes.{holding-range, credit-range, default-range}
-use Rattle.image.specs.Layout.{slot, owner, defaultToken, operatorLimit, holding, credit, initialised, hasOperatorLimit}
+use Rattle.token.specs.Token.{vaultBalance}
+use Rattle.image.specs.Layout.{slot, owner, defaultToken, operatorLimit, credit, initialised, hasOperatorLimit}
 use Rattle.amount.specs.Laws.{by-lt}
 use Rattle.amount.specs.Biased.{bias}
 use Rattle.views.specs.Views.{effectiveValue, accountBalance}
@@ -18,10 +19,10 @@ operator-limit-range l g i =
     (λ h. let e = f .noOperatorLimit (omega arith) in omega arith)
     (λ h. let e = f .operatorLimit (omega arith) in omega arith)
 
-pub default-holding : (l : List ℕ) → Good l → initialised l ≡ 1 → bias ≤ holding l (slot (defaultToken l)) 1
+pub default-holding : (l : List ℕ) → Good l → initialised l ≡ 1 → bias ≤ vaultBalance l
 default-holding l g i = let (low, high) = default-range l g i in holding-range l (slot (defaultToken l)) 1 g (omega arith) (omega arith) .0
 
-module _ (l : List ℕ) (caller : ℕ) (g : Good l) (i : initialised l ≡ 1) {h : ℕ} (e : h ≡ holding l (slot (defaultToken l)) 1) where
+module _ (l : List ℕ) (caller : ℕ) (g : Good l) (i : initialised l ≡ 1) {h : ℕ} (e : h ≡ vaultBalance l) where
   pub owner-value : owner l ≡ caller → h ≡ bias + effectiveValue l caller
   unfolding effectiveValue
   owner-value o = let d = default-holding l g i in rw (eq-eqb (owner l) caller o) (omega arith)
