@@ -1,4 +1,4 @@
--- The book of document 01: a number for each token, fed the kept operations and the events that the second vault writes for them.
+-- The book (docs/FORMATS.md, "The book"): a number for each token, fed the kept operations and the events that the second vault writes for them.
 -- Numbers, amounts and tolls are integers, so that nothing is cut off at 0 but what is left after a toll.
 use mathlib.Core.Path.{_≡_}
 use mathlib.Core.List.{List, [], _∷_}

@@ -1,4 +1,4 @@
--- The book of document 01, and how operations move it.
+-- The book, and how operations move it.
 pub mod Integers
 pub mod Book
 pub mod Moves

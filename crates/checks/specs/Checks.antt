@@ -1,4 +1,4 @@
--- Checks that several operations make, each a list of rules in document 01's order with its numbers. l is the image; amounts stand as numbers (value plus bias).
+-- Checks that several operations make, each a list of rules in the order of docs/FORMATS.md with its numbers. l is the image; amounts stand as numbers (value plus bias).
 use mathlib.Core.List.{List, [], _∷_}
 use Prim.Native.Nat.{ℕ, _+_, _^_}
 use Rattle.fields.specs.Rules.{lt, leq, eq, ne, Rule, when, verdict, chain}

@@ -1,4 +1,4 @@
-// Checks that several operations make: each gives the paper's number of the first rule that holds, or 0.
+// Checks that several operations make: each gives the number of the first rule that holds, or 0.
 use amount::Amount;
 ghost use mathlib.Core.Path.{_≡_};
 ghost use Prim.Native.Nat.{_+_, _<_, _≤_};

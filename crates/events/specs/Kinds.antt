@@ -1,4 +1,4 @@
--- The 18 kinds of event, each with its arguments in the order of events.rs. An amount is its value plus 2 ^ 127, a time is zero-extended, and what is unused is 0.
+-- The 18 kinds of event (docs/FORMATS.md, "Events"), each with its arguments in the order of the contract's events.rs. An amount is its value plus 2 ^ 127, a time is zero-extended, and what is unused is 0.
 use Prim.Native.Nat.{ℕ, _+_}
 use Rattle.amount.specs.Biased.{bias}
 use Rattle.events.specs.Event.{EventFields}

@@ -1,4 +1,4 @@
--- A run of calls, the kept list, the book, and sums over a run, for any step of a vault; and what demand 3 says of them.
+-- A run of calls, the kept list (docs/FORMATS.md, "The kept list"), the book, and sums over a run, for any step of a vault; and what demand 3 says of them.
 use mathlib.Core.Path.{_≡_}
 use mathlib.Core.Bool.{Bool}
 use mathlib.Core.List.{List, [], _∷_, map, reverse}

@@ -1,4 +1,4 @@
--- When an image is good.
+-- When an image is good (docs/FORMATS.md, "Good images").
 use mathlib.Core.List.{List}
 use mathlib.Core.Bool.{Bool, false, not}
 use Prim.Native.Nat.{ℕ, zero, suc, _-_, _*_}

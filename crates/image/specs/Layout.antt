@@ -1,4 +1,5 @@
--- The image of 36,832 bytes, 2,302 cells of 16: where each field stands, and what is read there. Tokens are counted by their slot, address 48 first.
+-- The image of 36,832 bytes, 2,302 cells of 16: where each field stands, and what is read there. Tokens are counted by their slot, address 48 first
+-- (docs/FORMATS.md, "The image").
 use mathlib.Core.List.{List}
 use Prim.Native.Nat.{ℕ, _+_, _-_, _*_, _/_, _%_, _^_}
 use Rattle.fields.specs.Bytes.{le}

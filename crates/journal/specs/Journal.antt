@@ -1,4 +1,4 @@
--- The undo journal: its bytes and what they say, which journals are good, and what an accepted operation enters.
+-- The undo journal (docs/FORMATS.md, "The journal"): its bytes and what they say, which journals are good, and what an accepted operation enters.
 use mathlib.Core.Bool.{Bool, true}
 use mathlib.Core.List.{List, [], _∷_, _++_}
 use Prim.Native.Nat.{ℕ, zero, suc, _*_, _-_, _/_, _%_}

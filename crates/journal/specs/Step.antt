@@ -1,4 +1,4 @@
--- What each call does to an image and a journal, for any operations.
+-- What each call does to an image and a journal, for any operations (docs/FORMATS.md, "The order of a call" and "Begin, commit, rollback, undo").
 use mathlib.Core.Path.{_≡_}
 use mathlib.Core.Bool.{Bool, true, false}
 use mathlib.Core.List.{List, []}

@@ -1,4 +1,4 @@
-// Operations 29 and 30, which document 01 adds: a transfer between others, and a token frozen or thawed.
+// Operations 29 and 30, which the contract's Rust does not have: a transfer between others, and a token frozen or thawed.
 use amount::Amount;
 use outcome::Answer;
 ghost use mathlib.Core.Path.{_≡_};

@@ -1,4 +1,4 @@
--- Which operations read which field of a record, and refusal 32.
+-- Which operations read which field of a record, and refusal 32 (docs/FORMATS.md, "The record" and "The order of a call").
 use mathlib.Core.Bool.{Bool, false, not, _||_}
 use mathlib.Core.List.{List, [], _∷_}
 use Prim.Native.Nat.{ℕ}

@@ -1,4 +1,4 @@
--- The fields of a record of 448 bytes, each at its place.
+-- The fields of a record of 448 bytes, each at its place (docs/FORMATS.md, "The record").
 use mathlib.Core.List.{List}
 use Prim.Native.Nat.{ℕ, _+_, _*_}
 use Rattle.fields.specs.Bytes.{le}

@@ -7,7 +7,6 @@ use Rattle.checks.specs.Checks.{flag, initialisedBit, signedNumber, ownerNumber
 use Rattle.events.specs.Kinds.{initializedEvent, tokenApprovalChangedEvent}
 use Rattle.record.specs.Record.{callerOf, tokenOf, flagOf, signersOf, amountOf}
 use Rattle.token.specs.Token.{absentNumber}
-use Rattle.storage.specs.Heads.{on}
 use Rattle.image.specs.Layout.{flags, approvedSet, withBit, withoutBit}
 use Rattle.amount.specs.Biased.{putAmount}
 use Rattle.fields.specs.Rules.{pick, eq, Rule, when, verdict, chain}

@@ -1,4 +1,4 @@
--- SEP-41 `balance` and `transfer` over the token table, with document 01's rules (its section "Leaves"). A token is named by its address t;
+-- SEP-41 `balance` and `transfer` over the token table, by the rules of docs/FORMATS.md, "Tokens and transfers". A token is named by its address t;
 -- an amount stands as its number n (its value plus `bias`), so that the toll is taken off by n - toll, never below 0.
 use mathlib.Core.List.{List, [], _∷_}
 use Prim.Native.Nat.{ℕ, _+_, _-_}

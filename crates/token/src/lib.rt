@@ -1,4 +1,4 @@
-// The token table: SEP-41 `balance` and `transfer` with document 01's rules. A token is named by its address.
+// The token table: SEP-41 `balance` and `transfer` by the rules of docs/FORMATS.md, "Tokens and transfers". A token is named by its address.
 use amount::Amount;
 ghost use mathlib.Core.Path.{_≡_};
 ghost use Prim.Native.Nat.{_+_, _<_, _≤_};

@@ -1,4 +1,5 @@
--- The vault: what a call of an operation gives, for every image, record and event buffer, and the step of every call.
+-- The vault: what a call of an operation gives, for every image, record and event buffer, and the step of every call
+-- (docs/FORMATS.md, "The operations" and "The order of a call").
 use mathlib.Core.Bool.{Bool}
 use mathlib.Core.List.{List, [], _∷_}
 use Prim.Native.Nat.{ℕ, zero, suc}

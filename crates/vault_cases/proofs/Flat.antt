@@ -5,13 +5,13 @@ use Prim.Native.Nat.{ℕ, _/_, _%_}
 use lib.ListN.{replicate}
 use Rattle.fields.specs.Bytes.{put}
 use Rattle.amount.specs.Biased.{bias, putAmount}
-use Rattle.vault_cases.specs.Paper.{paperLimit, paperImage, fullCreditImage}
+use Rattle.vault_cases.specs.Setting.{caseLimit, caseImage, fullCreditImage}
 
 -- the low bytes of what differs between them: tracked count, snapshot and tracked key; what vault, owner and payee hold; z is all that follows the payee's holding
 unfoldable pub imageOf : (count present ledger held key vault owner payee : ℕ) → List ℕ → List ℕ
 imageOf count present ledger held key vault owner payee z =
     5 ∷ 0 ∷ 2 ∷ 48 ∷ 3 ∷ 0 ∷ 0 ∷ 0
-    ∷ paperLimit % 256 ∷ paperLimit / 256 ∷ (replicate 38 0
+    ∷ caseLimit % 256 ∷ caseLimit / 256 ∷ (replicate 38 0
     ++ (128 ∷ 58 ∷ 9 ∷ (replicate 27 0
     ++ (1 ∷ (replicate 9 0
     ++ (count ∷ (replicate 1031 0
@@ -22,9 +22,9 @@ imageOf count present ledger held key vault owner payee z =
     ++ (owner ∷ 7 ∷ (replicate 30 0
     ++ (payee ∷ (replicate 15 0 ++ z)))))))))))))))))))
 
--- the paper's image, and what the cases make of it
-abbrev pub paperBytes : List ℕ → List ℕ
-paperBytes z = imageOf 0 0 0 0 0 100 208 0 z
+-- the image of the cases, and what the cases make of it
+abbrev pub caseBytes : List ℕ → List ℕ
+caseBytes z = imageOf 0 0 0 0 0 100 208 0 z
 
 abbrev pub paidBytes : List ℕ → List ℕ
 paidBytes z = imageOf 0 1 7 95 0 95 208 5 z
@@ -48,10 +48,10 @@ creditOfTen = credited (10 ∷ replicate 15 0) (replicate 16336 0)
 unfoldable pub creditFull : List ℕ
 creditFull = credited (replicate 15 255 ++ (127 ∷ [])) (replicate 16336 0)
 
-pub paper-flat : paperImage ≡ paperBytes noCredit
-unfolding paperImage imageOf noCredit credited bias putAmount put
-paper-flat = refl
+pub case-flat : caseImage ≡ caseBytes noCredit
+unfolding caseImage imageOf noCredit credited bias putAmount put
+case-flat = refl
 
-pub full-flat : fullCreditImage ≡ paperBytes creditFull
-unfolding paperImage fullCreditImage imageOf creditFull credited bias putAmount put
+pub full-flat : fullCreditImage ≡ caseBytes creditFull
+unfolding caseImage fullCreditImage imageOf creditFull credited bias putAmount put
 full-flat = refl

@@ -1,4 +1,4 @@
--- The paper's image is good: the laws of the writes that make it from an image of zeros.
+-- The image of the cases is good: the laws of the writes that make it from an image of zeros.
 use mathlib.Core.Path.{_≡_, refl, ap}
 use mathlib.Core.List.{List}
 use Prim.Native.Nat.{ℕ, _+_, _^_, _<_}
@@ -13,8 +13,8 @@ use Rattle.storage.specs.Facts.{Good}
 use Rattle.storage.specs.Zeros.{zero-at, empty-good}
 use Rattle.storage.specs.Writes.{elsewhere, good-holding, good-kind}
 use Rattle.storage.specs.Heads.{flags-put, good-approved, good-set-operator, good-initialise}
-use Rattle.vault_cases.specs.Paper.{paperLimit}
-use Rattle.vault_cases.proofs.Flat.{imageOf, paperBytes, noCredit, credited}
+use Rattle.vault_cases.specs.Setting.{caseLimit}
+use Rattle.vault_cases.proofs.Flat.{imageOf, caseBytes, noCredit, credited}
 
 -- token 48, then what the vault, and what the owner holds of it
 abbrev token : List ℕ → List ℕ
@@ -28,7 +28,7 @@ held l = putAmount (funded l) (holdingAt 0 2) (bias + 2000)
 
 -- initialised, then with an operator
 abbrev begun : List ℕ → List ℕ
-begun l = put 8 (putAmount (put 1 (put 1 (put 2 (held l) 0 1) 2 2) 3 48) 8 (bias + paperLimit)) 48 604800
+begun l = put 8 (putAmount (put 1 (put 1 (put 2 (held l) 0 1) 2 2) 3 48) 8 (bias + caseLimit)) 48 604800
 
 abbrev operated : List ℕ → List ℕ
 operated l = put 1 (put 2 (begun l) 0 5) 4 3
@@ -41,7 +41,7 @@ fits-2000 : bias + 2000 < bias + bias
 unfolding bias
 fits-2000 = lit< tt
 
-fits-limit : bias + paperLimit < bias + bias
+fits-limit : bias + caseLimit < bias + bias
 unfolding bias
 fits-limit = lit< tt
 
@@ -70,7 +70,7 @@ module _ (l : List ℕ) (g : Good l) (z : initialised l ≡ 0) where
   begun-good : Good (begun l)
   begun-good =
       let k = held-kind in
-      good-initialise (held l) 2 48 (bias + paperLimit) 604800 held-good held-blank (omega arith) (omega arith) (omega arith) (omega arith) (omega arith) fits-limit (omega arith) (omega arith)
+      good-initialise (held l) 2 48 (bias + caseLimit) 604800 held-good held-blank (omega arith) (omega arith) (omega arith) (omega arith) (omega arith) fits-limit (omega arith) (omega arith)
 
   begun-flags : flags (begun l) ≡ 1
   begun-flags =
@@ -87,11 +87,11 @@ module _ (l : List ℕ) (g : Good l) (z : initialised l ≡ 0) where
   made-good : Good (put 8 (operated l) 72 (2 ^ 48))
   made-good = good-approved (operated l) operated-good (ap (λ (x : ℕ). bit x 0) operated-flags) (2 ^ 48)
 
-made-flat : put 8 (operated (replicate 36832 0)) 72 (2 ^ 48) ≡ paperBytes noCredit
+made-flat : put 8 (operated (replicate 36832 0)) 72 (2 ^ 48) ≡ caseBytes noCredit
 unfolding imageOf noCredit credited bias putAmount put
 made-flat = refl
 
-pub good : Good (paperBytes noCredit)
+pub good : Good (caseBytes noCredit)
 good =
     let f = zero-le (replicate 36832 0) 2 0 (λ i p q. zero-at 36832 i) in
     rw made-flat at (made-good (replicate 36832 0) (empty-good 36832 refl) (omega arith))

@@ -24,7 +24,7 @@ use Rattle.token_vault.specs.Vault.{outcomeOf, callNumber, op, view, vaultStep}
 use Rattle.token_vault.proofs.Called.{form-passed, own-number, own-image}
 use Rattle.token_vault.proofs.Owed.{outcome-good}
 use Rattle.vault_cases.specs.Cases.{shown, done, refused, answers}
-use Rattle.vault_cases.specs.Paper.{ask}
+use Rattle.vault_cases.specs.Setting.{ask}
 
 -- what the operation of a record is to give on an image by its own rules
 pub record Accepts (l r : List ℕ) (value count : ℕ) : Type 0 where

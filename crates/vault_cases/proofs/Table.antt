@@ -22,18 +22,18 @@ use Rattle.journal.proofs.Written.{length-bytes}
 use Rattle.journal.proofs.Dispatch.{operated-entered, step-operation}
 use Rattle.token_vault.specs.Vault.{outcomeOf, op, view, vaultStep}
 use Rattle.token_vault.proofs.Called.{own-number, own-image, vault-begin, vault-undo}
-use Rattle.vault_cases.specs.Paper.{paperImage, fullCreditImage, paper, ask, deposits, depositsIn, depositsWithFee, depositsToken, paysTo, paysTwo, limitsOperator, setsLimit, pauses, proposes, acceptsAt, initiates, executesAt, asksCompliance}
+use Rattle.vault_cases.specs.Setting.{caseImage, fullCreditImage, start, ask, deposits, depositsIn, depositsWithFee, depositsToken, paysTo, paysTwo, limitsOperator, setsLimit, pauses, proposes, acceptsAt, initiates, executesAt, asksCompliance}
 use Rattle.vault_cases.specs.Cases.{Cases, answers, after, done, refused}
-use Rattle.vault_cases.proofs.Flat.{imageOf, paperBytes, depositedBytes, migratedBytes, paidBytes, noCredit, creditOfTen, creditFull, paper-flat, full-flat}
+use Rattle.vault_cases.proofs.Flat.{imageOf, caseBytes, depositedBytes, migratedBytes, paidBytes, noCredit, creditOfTen, creditFull, case-flat, full-flat}
 use Rattle.vault_cases.proofs.Made.{good}
 use Rattle.vault_cases.proofs.Runs.{Accepts, Refuses, Views, passed, shown-done, length-changed, accepted, accepts, refuses, viewed, still-good}
 use Rattle.vault_cases.proofs.Computed.{pays-40-60, pays-41-60, limited, pays-30-20, pays-30-21, pays-itself, deposits-900, deposits-901, fee-9, fee-10, paused, fee-10-paused, proposed, accepted-604799, accepted-604800, initiated, executed-172799, initiated-paused, executed, executed-paused, deposits-10, then-initiated, then-executed, deposits-again, deposits-next, compliant-2, deposits-1, deposits-token-1, limit-99, limit-100, pays-5, compliant-0, compliant-48, paid, deposited, migrated, credit-kept, three-cells}
 
 -- ---- the images are good
-paper-is-good : Good paperImage
-paper-is-good = rw paper-flat good
+case-is-good : Good caseImage
+case-is-good = rw case-flat good
 
-one-kind : kind (paperBytes noCredit) 0 ≡ 1
+one-kind : kind (caseBytes noCredit) 0 ≡ 1
 unfolding imageOf le
 one-kind = refl
 
@@ -44,11 +44,11 @@ full-below = lit< tt
 not-below : (x : ℕ) → bias ≤ bias + x
 not-below x = omega arith
 
-full-is-good : Good (paperBytes creditFull)
+full-is-good : Good (caseBytes creditFull)
 unfolding fullCreditImage
 full-is-good =
-    let k : 0 < kind paperImage 0 = rw (paper-flat, one-kind) (omega arith) in
-    rw (← full-flat) (good-credit paperImage 0 2 (bias + (2 ^ 127 - 1)) paper-is-good (omega arith) (omega arith) k (not-below (2 ^ 127 - 1)) full-below)
+    let k : 0 < kind caseImage 0 = rw (case-flat, one-kind) (omega arith) in
+    rw (← full-flat) (good-credit caseImage 0 2 (bias + (2 ^ 127 - 1)) case-is-good (omega arith) (omega arith) k (not-below (2 ^ 127 - 1)) full-below)
 
 zeros-long : (n : ℕ) → length {A = ℕ} (replicate n 0) ≡ n
 zeros-long n = length-replicate n 0
@@ -56,7 +56,7 @@ zeros-long n = length-replicate n 0
 -- ---- a payout in an open journal, and its undoing
 module _ (n : ℕ) (f : fits n ≡ true) (h : 96 ≤ n) where
   abbrev l : List ℕ
-  l = paperBytes noCredit
+  l = caseBytes noCredit
 
   abbrev m : List ℕ
   m = outcomeOf l (paysTo 4 5) .image
@@ -115,39 +115,39 @@ module _ (n : ℕ) (f : fits n ≡ true) (h : 96 ≤ n) where
 
 -- ---- the table
 module _ (n : ℕ) (f : fits n ≡ true) where
-  -- one call of the paper's image: done, and refused
-  does : (r : List ℕ) {v c : ℕ} → Accepts (paperBytes noCredit) r v c → answers (paper n) (ask r ∷ []) ≡ done v c ∷ []
-  does r a = rw paper-flat (accepts n f (paperBytes noCredit) r good [] a refl)
+  -- one call of the image of the cases: done, and refused
+  does : (r : List ℕ) {v c : ℕ} → Accepts (caseBytes noCredit) r v c → answers (start n) (ask r ∷ []) ≡ done v c ∷ []
+  does r a = rw case-flat (accepts n f (caseBytes noCredit) r good [] a refl)
 
-  stops : (r : List ℕ) {k : ℕ} → Refuses (paperBytes noCredit) r k → answers (paper n) (ask r ∷ []) ≡ refused (suc k) ∷ []
-  stops r a = rw paper-flat (refuses n f (paperBytes noCredit) r good [] a refl)
+  stops : (r : List ℕ) {k : ℕ} → Refuses (caseBytes noCredit) r k → answers (start n) (ask r ∷ []) ≡ refused (suc k) ∷ []
+  stops r a = rw case-flat (refuses n f (caseBytes noCredit) r good [] a refl)
 
-  looks : (r : List ℕ) {v : ℕ} → Views (paperBytes noCredit) r v → answers (paper n) (ask r ∷ []) ≡ done v 0 ∷ []
-  looks r a = rw paper-flat (viewed n f (paperBytes noCredit) r good a)
+  looks : (r : List ℕ) {v : ℕ} → Views (caseBytes noCredit) r v → answers (start n) (ask r ∷ []) ≡ done v 0 ∷ []
+  looks r a = rw case-flat (viewed n f (caseBytes noCredit) r good a)
 
   -- two calls
-  does-both : (r s : List ℕ) {v c w d : ℕ} → Accepts (paperBytes noCredit) r v c → Accepts (outcomeOf (paperBytes noCredit) r .image) s w d
-      → answers (paper n) (ask r ∷ ask s ∷ []) ≡ done v c ∷ done w d ∷ []
+  does-both : (r s : List ℕ) {v c w d : ℕ} → Accepts (caseBytes noCredit) r v c → Accepts (outcomeOf (caseBytes noCredit) r .image) s w d
+      → answers (start n) (ask r ∷ ask s ∷ []) ≡ done v c ∷ done w d ∷ []
   does-both r s a b =
-      let g = still-good n f (paperBytes noCredit) r good a in
-      rw paper-flat (accepts n f (paperBytes noCredit) r good (ask s ∷ []) a (accepts n f _ s g [] b refl))
+      let g = still-good n f (caseBytes noCredit) r good a in
+      rw case-flat (accepts n f (caseBytes noCredit) r good (ask s ∷ []) a (accepts n f _ s g [] b refl))
 
-  then-stops : (r s : List ℕ) {v c k : ℕ} → Accepts (paperBytes noCredit) r v c → Refuses (outcomeOf (paperBytes noCredit) r .image) s k
-      → answers (paper n) (ask r ∷ ask s ∷ []) ≡ done v c ∷ refused (suc k) ∷ []
+  then-stops : (r s : List ℕ) {v c k : ℕ} → Accepts (caseBytes noCredit) r v c → Refuses (outcomeOf (caseBytes noCredit) r .image) s k
+      → answers (start n) (ask r ∷ ask s ∷ []) ≡ done v c ∷ refused (suc k) ∷ []
   then-stops r s a b =
-      let g = still-good n f (paperBytes noCredit) r good a in
-      rw paper-flat (accepts n f (paperBytes noCredit) r good (ask s ∷ []) a (refuses n f _ s g [] b refl))
+      let g = still-good n f (caseBytes noCredit) r good a in
+      rw case-flat (accepts n f (caseBytes noCredit) r good (ask s ∷ []) a (refuses n f _ s g [] b refl))
 
-  paused-execution : answers (paper n) (ask (initiates 4) ∷ ask pauses ∷ ask (executesAt 172800) ∷ []) ≡ done 0 1 ∷ done 0 1 ∷ done 100 1 ∷ []
+  paused-execution : answers (start n) (ask (initiates 4) ∷ ask pauses ∷ ask (executesAt 172800) ∷ []) ≡ done 0 1 ∷ done 0 1 ∷ done 100 1 ∷ []
   paused-execution =
       let g1 = still-good n f _ (initiates 4) good (initiated noCredit) in
       let g2 = still-good n f _ pauses g1 (initiated-paused noCredit) in
-      rw paper-flat
+      rw case-flat
       (accepts n f _ (initiates 4) good (ask pauses ∷ ask (executesAt 172800) ∷ []) (initiated noCredit)
       (accepts n f _ pauses g1 (ask (executesAt 172800) ∷ []) (initiated-paused noCredit)
       (accepts n f _ (executesAt 172800) g2 [] (executed-paused noCredit) refl)))
 
-  sequence : answers (paper n) (ask (depositsIn 7 10) ∷ ask (initiates 4) ∷ ask (executesAt 172800) ∷ ask (depositsIn 7 10) ∷ ask (depositsIn 8 10) ∷ [])
+  sequence : answers (start n) (ask (depositsIn 7 10) ∷ ask (initiates 4) ∷ ask (executesAt 172800) ∷ ask (depositsIn 7 10) ∷ ask (depositsIn 8 10) ∷ [])
       ≡ done 0 1 ∷ done 0 1 ∷ done 110 1 ∷ refused 11 ∷ done 0 1 ∷ []
   sequence =
       let g1 : Good (depositedBytes creditOfTen) = rw (← deposited) (still-good n f _ (depositsIn 7 10) good (deposits-10 noCredit)) in
@@ -155,7 +155,7 @@ module _ (n : ℕ) (f : fits n ≡ true) where
       let g3 : Good (migratedBytes creditOfTen) = rw (← migrated creditOfTen) (still-good n f _ (executesAt 172800) g2 (then-executed creditOfTen)) in
       let last = refuses n f _ (depositsIn 7 10) g3 (ask (depositsIn 8 10) ∷ []) (deposits-again creditOfTen)
       (accepts n f _ (depositsIn 8 10) g3 [] (deposits-next creditOfTen) refl) in
-      rw paper-flat
+      rw case-flat
       (accepts n f _ (depositsIn 7 10) good (ask (initiates 4) ∷ ask (executesAt 172800) ∷ ask (depositsIn 7 10) ∷ ask (depositsIn 8 10) ∷ []) (deposits-10 noCredit)
       (rw deposited
       (accepts n f _ (initiates 4) g1 (ask (executesAt 172800) ∷ ask (depositsIn 7 10) ∷ ask (depositsIn 8 10) ∷ []) (then-initiated creditOfTen)
@@ -164,7 +164,7 @@ module _ (n : ℕ) (f : fits n ≡ true) where
 pub each-case : (n : ℕ) → fits n ≡ true → 96 ≤ n → Cases n
 each-case n f h =
     record {
-      opens = record { image-good = test paperImage paper-is-good; length-fits = rw (zeros-long n) f; all-zero = rw (zeros-long n) };
+      opens = record { image-good = test caseImage case-is-good; length-fits = rw (zeros-long n) f; all-zero = rw (zeros-long n) };
       A-40+60 = does n f (paysTwo 2 40 60) (pays-40-60 noCredit);
       A-41+60 = stops n f (paysTwo 2 41 60) (pays-41-60 noCredit);
       B-30+20 = does-both n f (limitsOperator 50) (paysTwo 3 30 20) (limited noCredit) (pays-30-20 noCredit);
@@ -184,17 +184,17 @@ each-case n f h =
       I-0 = looks n f (asksCompliance 0) (compliant-0 noCredit);
       I-48 = looks n f (asksCompliance 48) (compliant-48 noCredit);
       I-2 = stops n f (asksCompliance 2) (compliant-2 noCredit);
-      J-deposit = rw full-flat (accepts n f (paperBytes creditFull) (deposits 1) full-is-good [] (deposits-1 creditFull) refl);
+      J-deposit = rw full-flat (accepts n f (caseBytes creditFull) (deposits 1) full-is-good [] (deposits-1 creditFull) refl);
       J-kept =
-          let e : after (vault (paperBytes creditFull) (replicate n 0)) (ask (deposits 1) ∷ []) ≡ outcomeOf (paperBytes creditFull) (deposits 1) .image =
-          ap (λ (s : Step). s .state .image) (accepted n f (paperBytes creditFull) (deposits 1) full-is-good (deposits-1 creditFull)) in
+          let e : after (vault (caseBytes creditFull) (replicate n 0)) (ask (deposits 1) ∷ []) ≡ outcomeOf (caseBytes creditFull) (deposits 1) .image =
+          ap (λ (s : Step). s .state .image) (accepted n f (caseBytes creditFull) (deposits 1) full-is-good (deposits-1 creditFull)) in
           rw full-flat (ap (λ x. credit x 0 2) e ∙ credit-kept);
-      J-token = rw full-flat (refuses n f (paperBytes creditFull) (depositsToken 1) full-is-good [] deposits-token-1 refl);
+      J-token = rw full-flat (refuses n f (caseBytes creditFull) (depositsToken 1) full-is-good [] deposits-token-1 refl);
       K-99 = stops n f (setsLimit 5 99) (limit-99 noCredit);
       K-100 = stops n f (setsLimit 5 100) (limit-100 noCredit);
-      L-answers = rw (paper-flat, first n f h, second n f h, third n f h, shown-done (paperBytes noCredit) (paysTo 4 5) (pays-5 noCredit .formed) (pays-5 noCredit .number), pays-5 noCredit .value-is, pays-5 noCredit .count-is);
-      L-image = rw paper-flat (ap (λ (s : State). s .image) (undone-state n f h));
-      L-state = rw paper-flat (undone-state n f h ∙ sym (begun-state n f h));
+      L-answers = rw (case-flat, first n f h, second n f h, third n f h, shown-done (caseBytes noCredit) (paysTo 4 5) (pays-5 noCredit .formed) (pays-5 noCredit .number), pays-5 noCredit .value-is, pays-5 noCredit .count-is);
+      L-image = rw case-flat (ap (λ (s : State). s .image) (undone-state n f h));
+      L-state = rw case-flat (undone-state n f h ∙ sym (begun-state n f h));
     }
 
 -- beside the longest journal

@@ -1,3 +1,3 @@
--- The vault of document 01 and its cases A to L.
-pub mod Paper
+-- The vault of the cases A to L, and the cases.
+pub mod Setting
 pub mod Cases

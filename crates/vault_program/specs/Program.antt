@@ -1,4 +1,4 @@
--- What the program prints for a record, and the image that it carries on to the next.
+-- What the program prints for a record, and the image that it carries on to the next (docs/FORMATS.md, "The program").
 use mathlib.Core.Path.{_≡_, sym, ap, _∙_}
 use mathlib.Core.List.{List, [], append-nil}
 use Prim.Native.Nat.{ℕ, _+_, _-_, _<_}

@@ -1,4 +1,4 @@
--- The image and the records of document 01's cases: owner 2 with 2000 of its own, operator 3, both signed, token 48, payee 4.
+-- The image and the records of the cases of docs/FORMATS.md: owner 2 with 2000 of its own, operator 3, both signed, token 48, payee 4.
 use mathlib.Core.List.{List}
 use Prim.Native.Nat.{ℕ, _+_, _-_, _^_}
 use lib.ListN.{replicate}
@@ -9,22 +9,22 @@ use Rattle.journal.specs.Calls.{Call, operation, State}
 use Rattle.journal.specs.Step.{vault, blank}
 
 -- ---- images
-abbrev pub paperLimit : ℕ
-paperLimit = 1000
+abbrev pub caseLimit : ℕ
+caseLimit = 1000
 
 -- initialised, with an operator; owner 2, token 48, operator 3; proposals live seven days; 48 is approved, moves and has no toll; the vault holds 100, the owner 2000
-unfoldable pub paperImage : List ℕ
-paperImage =
-    putAmount (putAmount (put 8 (put 8 (put 8 (putAmount (put 1 (put 1 (put 1 (put 2 (replicate 36832 0) 0 (2 ^ 0 + 2 ^ 2)) 2 2) 3 48) 4 3) 8 (bias + paperLimit)) 48
+unfoldable pub caseImage : List ℕ
+caseImage =
+    putAmount (putAmount (put 8 (put 8 (put 8 (putAmount (put 1 (put 1 (put 1 (put 2 (replicate 36832 0) 0 (2 ^ 0 + 2 ^ 2)) 2 2) 3 48) 4 3) 8 (bias + caseLimit)) 48
     604800) 72 (2 ^ 48)) 3680 1) (holdingAt 0 1) (bias + 100)) (holdingAt 0 2) (bias + 2000)
 
 -- the same with a credit of 2 ^ 127 - 1 for the owner
 unfoldable pub fullCreditImage : List ℕ
-fullCreditImage = putAmount paperImage (creditAt 0 2) (bias + (2 ^ 127 - 1))
+fullCreditImage = putAmount caseImage (creditAt 0 2) (bias + (2 ^ 127 - 1))
 
 -- beside a closed journal of n bytes
-abbrev pub paper : ℕ → State
-paper n = vault paperImage (replicate n 0)
+abbrev pub start : ℕ → State
+start n = vault caseImage (replicate n 0)
 
 abbrev pub fullCredit : ℕ → State
 fullCredit n = vault fullCreditImage (replicate n 0)
