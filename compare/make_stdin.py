@@ -1,6 +1,6 @@
 #!/usr/bin/env python3
 # Writes stdin and stdout of the program crates: token_vault_main, token_vault_zero, token_vault_short_record, token_vault_short_image, token_vault_empty.
-# Beside each record stands the answer (number, value, events) that document 01 gives it; the image is carried on from record to record.
+# Beside each record stands the answer (number, value, events) that docs/FORMATS.md gives it; the image is carried on from record to record.
 import pathlib
 
 ROOT = pathlib.Path(__file__).resolve().parent.parent

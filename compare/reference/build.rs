@@ -17,8 +17,12 @@ fn main() {
     for (name, digest) in FILES {
         let path = source.join(name);
         println!("cargo:rerun-if-changed={}", path.display());
-        let bytes = fs::read(&path).unwrap_or_else(|e| panic!("{}: {e}", path.display()));
-        assert_eq!(sha256::hex(&bytes), digest, "{} is not the contract's file", path.display());
+        let bytes = fs::read(&path).unwrap_or_else(|e| {
+            stop(&format!("the contract's Rust is not here: {}: {e}; VAULT_RUST_SRC names its folder", path.display()))
+        });
+        if sha256::hex(&bytes) != digest {
+            stop(&format!("{} is not the contract's file at commit 560a68810f", path.display()));
+        }
         fs::write(out.join(name), bytes).expect("a copy");
     }
     for name in ["errors.rs", "ttl.rs"] {
@@ -35,15 +39,14 @@ fn main() {
 
 /// The folder of the three files: VAULT_RUST_SRC, or beside the repository.
 fn source(root: &Path) -> PathBuf {
-    if let Some(path) = env::var_os("VAULT_RUST_SRC") {
-        return PathBuf::from(path);
+    match env::var_os("VAULT_RUST_SRC") {
+        Some(path) => PathBuf::from(path),
+        None => root.join("../../../shared/docs/src/contracts/token-vault/src"),
     }
-    let repository = root.join("../..");
-    for shared in ["../shared", "../../shared"] {
-        let path = repository.join(shared).join("docs/src/contracts/token-vault/src");
-        if path.is_dir() {
-            return path;
-        }
-    }
-    panic!("the contract's Rust was not found beside the repository: set VAULT_RUST_SRC")
+}
+
+/// Ends the build with one line.
+fn stop(line: &str) -> ! {
+    eprintln!("{line}");
+    std::process::exit(1)
 }

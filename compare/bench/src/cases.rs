@@ -3,7 +3,8 @@ use model::build::{image_with_token, record, set_holding, Fields};
 use model::bytes::put;
 use model::image::{cap_at, credit_at, holding_at, token_at};
 use model::vault::Call;
-use token_vault::{call_without_journal, EVENTS_LENGTH, JOURNAL_LENGTH_MAX};
+use token_vault::exports::call_without_journal;
+use token_vault::layout::{EVENTS_LENGTH, JOURNAL_LENGTH_MAX};
 
 const VAULT: u8 = 1;
 const OWNER: u8 = 2;
@@ -30,7 +31,7 @@ pub fn sparse_image() -> Vec<u8> {
     }
     set_holding(&mut image, TOKEN, VAULT, MUCH >> 10);
     let initialize = record(Fields { operation: 1, caller: OWNER, token: TOKEN, amount: MUCH, ..Fields::default() });
-    assert_eq!(call_without_journal(&mut image, &initialize, &mut [0; EVENTS_LENGTH]).number, 0);
+    assert_eq!(call_without_journal(&mut image, &initialize, &mut [0; EVENTS_LENGTH], &mut [0; 16], &mut 0), 0);
     image
 }
 

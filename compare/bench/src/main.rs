@@ -3,10 +3,9 @@ mod cases;
 mod sides;
 
 use cases::Case;
-use sides::Side;
+use sides::{Answer, Side};
 use std::process::exit;
 use std::time::{Duration, Instant};
-use token_vault::Answer;
 
 const USAGE: &str = "bench [--quick]
   --quick  compare the sides on every case and time nothing";

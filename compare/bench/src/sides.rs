@@ -2,7 +2,15 @@
 use model::vault::{Call, Done, Vault};
 use model::{journal, record};
 use reference::{Changes, Loaded};
-use token_vault::{begin, call, call_without_journal, commit, rollback, undo, Answer};
+use token_vault::exports;
+
+/// What a call answers: its number (0 when done), its value and how many events it wrote.
+#[derive(Clone, Copy, Debug, PartialEq, Eq)]
+pub struct Answer {
+    pub number: u32,
+    pub value: i128,
+    pub events: u32,
+}
 
 /// What a side holds after a call.
 #[derive(PartialEq, Eq)]
@@ -45,16 +53,29 @@ struct Library {
     events: Vec<u8>,
 }
 
+impl Library {
+    fn operation(&mut self, record: &[u8]) -> Answer {
+        let Vault { image, journal } = &mut self.vault;
+        let mut value = [0; 16];
+        let mut count = 0;
+        let number = if self.with_journal {
+            exports::call(image, journal, record, &mut self.events, &mut value, &mut count)
+        } else {
+            exports::call_without_journal(image, record, &mut self.events, &mut value, &mut count)
+        };
+        Answer { number, value: i128::from_le_bytes(value), events: count }
+    }
+}
+
 impl Side for Library {
     fn call(&mut self, called: &Call) -> Answer {
         let Vault { image, journal } = &mut self.vault;
         match called {
-            Call::Operation { record, .. } if self.with_journal => call(image, journal, record, &mut self.events),
-            Call::Operation { record, .. } => call_without_journal(image, record, &mut self.events),
-            Call::Begin => plain(begin(image, journal)),
-            Call::Commit => plain(commit(image, journal)),
-            Call::Rollback => plain(rollback(image, journal)),
-            Call::Undo => plain(undo(image, journal)),
+            Call::Operation { record, .. } => self.operation(record),
+            Call::Begin => plain(exports::begin(image, journal)),
+            Call::Commit => plain(exports::commit(image, journal)),
+            Call::Rollback => plain(exports::rollback(image, journal)),
+            Call::Undo => plain(exports::undo(image, journal)),
         }
     }
 

@@ -1,4 +1,4 @@
-//! Document 01's cases A to L: the numbers are the paper's, and both sides have to give them.
+//! The cases A to L of docs/FORMATS.md: the numbers are that page's, and both sides have to give them.
 use crate::compare::Pair;
 use model::bytes::{amount, put};
 use model::image::{credit_at, holding_at, token_at, LENGTH};
@@ -106,7 +106,7 @@ pub fn run() {
     check("K", &mut fresh(), of(11, 9, 99), 6);
     check("K", &mut fresh(), of(11, 9, 100), 3);
     undone();
-    println!("cases A to L: as document 01 has them, at both sides");
+    println!("cases A to L: as docs/FORMATS.md has them, at both sides");
 }
 
 fn fee() {

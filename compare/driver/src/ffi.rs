@@ -1,6 +1,6 @@
 //! A call of any kind at the vault, through the functions that C sees.
 use model::vault::{Answer, Call, Vault};
-use token_vault::ffi::{token_vault_call, token_vault_call_without_journal};
+use token_vault::exports;
 
 /// Makes a call at the vault. Without a journal, only operations.
 pub fn call(vault: &mut Vault, call: &Call, with_journal: bool) -> Answer {
@@ -75,25 +75,19 @@ fn operation(image: &mut [u8], journal: Option<&mut [u8]>, record: &[u8], events
     // Bytes that a call must write over.
     let mut value = [0xa5; 16];
     let mut count = 0xa5a5_a5a5;
-    let (i, il) = (image.as_mut_ptr(), image.len());
-    let (r, rl) = (record.as_ptr(), record.len());
-    let (e, el) = (events.as_mut_ptr(), events.len());
-    // Each pointer stands with the length of the list that it points into, and no two lists overlap.
-    let number = unsafe {
-        match journal {
-            Some(j) => token_vault_call(i, il, j.as_mut_ptr(), j.len(), r, rl, e, el, &mut value, &mut count),
-            None => token_vault_call_without_journal(i, il, r, rl, e, el, &mut value, &mut count),
-        }
+    let number = match journal {
+        Some(journal) => exports::call(image, journal, record, events, &mut value, &mut count),
+        None => exports::call_without_journal(image, record, events, &mut value, &mut count),
     };
     Numbers { number, value, count }
 }
 
 fn transaction(image: &mut [u8], journal: &mut [u8], call: &Call) -> u32 {
     match call {
-        Call::Begin => token_vault::begin(image, journal),
-        Call::Commit => token_vault::commit(image, journal),
-        Call::Rollback => token_vault::rollback(image, journal),
-        Call::Undo => token_vault::undo(image, journal),
+        Call::Begin => exports::begin(image, journal),
+        Call::Commit => exports::commit(image, journal),
+        Call::Rollback => exports::rollback(image, journal),
+        Call::Undo => exports::undo(image, journal),
         Call::Operation { .. } => unreachable!("an operation is no transaction call"),
     }
 }

@@ -41,7 +41,7 @@ const USAGE: &str = "driver [--calls N] [--seed S] [--jobs J] [--scenario N] [--
   --program     compare the lines of the program (VAULT_PROGRAM, or target/bin/token_vault_main) on streams of records;
                 then wrong programs on the same, each of which has to be found
   --self-test   plant mistakes in the Rust side's outcome; each has to be found
-  --partial     a pair of document 01 that was not reached is no failure";
+  --partial     a pair of operation and answer that was not reached is no failure";
 
 fn usage() -> ! {
     eprintln!("{USAGE}");
@@ -126,7 +126,7 @@ fn main() {
     );
     let unexpected = run.table.unexpected();
     if !unexpected.is_empty() {
-        println!("not in document 01: {}", unexpected.join(", "));
+        println!("not in docs/FORMATS.md: {}", unexpected.join(", "));
         exit(1);
     }
     let missing = [run.table.missing(), run.situations.missing()].concat();

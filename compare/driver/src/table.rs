@@ -1,4 +1,4 @@
-//! How often each operation gave each number, and which pairs of document 01 have to be reached.
+//! How often each operation gave each number, and which pairs of docs/FORMATS.md have to be reached.
 use model::vault::Call;
 use std::ops::RangeInclusive;
 
@@ -47,10 +47,10 @@ const NAMES: [&str; ROWS] = [
     "undo",
 ];
 
-/// Document 01, "Refusals, operation by operation": each operation's own numbers.
+/// docs/FORMATS.md, "The operations": each operation's own numbers.
 ///
 /// Not listed, since no good image and record can give them:
-/// - 5 `withdraw`: 7 (one amount above 0 is its own sum), though the paper names both withdrawals together.
+/// - 5 `withdraw`: 7 (one amount above 0 is its own sum), though the page names both withdrawals together.
 /// - 3 `deposit_with_fee`: no other 4 or 5 of its inner `deposit`, since the net lies between 1 and the gross.
 fn own(row: usize) -> &'static [usize] {
     match row {
@@ -126,7 +126,7 @@ impl Table {
         self.0[Table::row(call)][number as usize] += 1;
     }
 
-    /// Whether document 01 has the pair and it was not reached yet.
+    /// Whether docs/FORMATS.md has the pair and it was not reached yet.
     pub fn is_new(&self, call: &Call, number: u32) -> bool {
         let row = Table::row(call);
         self.0[row][number as usize] == 0 && wanted(row).contains(&(number as usize))
@@ -165,12 +165,12 @@ impl Table {
         }
     }
 
-    /// The pairs of document 01 that were not reached.
+    /// The pairs of docs/FORMATS.md that were not reached.
     pub fn missing(&self) -> Vec<String> {
         self.pairs(|row, number, count| count == 0 && wanted(row).contains(&number))
     }
 
-    /// The pairs that were reached though document 01 does not have them.
+    /// The pairs that were reached though docs/FORMATS.md does not have them.
     pub fn unexpected(&self) -> Vec<String> {
         self.pairs(|row, number, count| count > 0 && !wanted(row).contains(&number))
     }

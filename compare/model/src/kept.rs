@@ -1,4 +1,4 @@
-//! The kept list and the book of document 01.
+//! The kept list and the book of docs/FORMATS.md.
 use crate::bytes::amount;
 use crate::image::{holding_at, toll_at};
 use crate::record;

@@ -1,4 +1,4 @@
-//! A plain reading of document 01, for what the Rust contract does not have: good images, records and journals,
+//! A plain reading of docs/FORMATS.md, for what the Rust contract does not have: good images, records and journals,
 //! operations 29 and 30, transactions and undo, the kept list and the book.
 pub mod build;
 pub mod bytes;

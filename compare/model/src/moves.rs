@@ -2,7 +2,7 @@
 use crate::bytes::{amount, put};
 use crate::image::{holding_at, kind, token_at, toll_at};
 
-/// A transfer of document 01's "Leaves"; a failed one changes nothing.
+/// A transfer (docs/FORMATS.md, "Tokens and transfers"); a failed one changes nothing.
 pub fn transfer(image: &mut [u8], token: usize, from: usize, to: usize, moved: i128) -> bool {
     if kind(image, token) != 1 {
         return false;

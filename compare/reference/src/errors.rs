@@ -1,4 +1,4 @@
-//! The contract's errors and their numbers in document 01. errors.rs itself cannot be had.
+//! The contract's errors and their numbers (docs/FORMATS.md, "Refusals"). errors.rs itself cannot be had.
 #[derive(Clone, Copy, Debug, PartialEq, Eq)]
 pub enum Error {
     NotInitialized = 1,
@@ -22,7 +22,7 @@ pub enum Error {
     NotPaused = 19,
     NoMigrationProposed = 20,
     TimelockNotExpired = 21,
-    // Not in document 01; none can arise in an operation that is compared.
+    // No refusals of the vault; none can arise in an operation that is compared.
     ReentrancyDetected = 100,
     InvalidWasmHash = 101,
     InvalidStreamBatch = 102,

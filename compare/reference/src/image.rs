@@ -1,4 +1,4 @@
-//! Document 01's image as host storage and token table, and back.
+//! The image of docs/FORMATS.md as host storage and token table, and back.
 use crate::storage::{DataKey, EmergencyMigration, VaultBalanceSnapshot};
 use model::bytes::{amount, get16, get32, get64, put};
 use model::image::LENGTH;

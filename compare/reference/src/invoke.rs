@@ -14,7 +14,7 @@ pub struct Done {
     pub image: Option<Vec<u8>>,
 }
 
-/// The trap numbers of document 01. The contract's caller sees one trap; which of the two it was is known to the stand-in alone.
+/// The numbers of the host's trap (docs/FORMATS.md, "Refusals"). The contract's caller sees one trap; which of the two it was is known to the stand-in alone.
 fn trap_number(trap: Trap) -> u32 {
     match trap {
         Trap::Authorisation => 22,

@@ -1,4 +1,4 @@
-//! The contract's lib.rs, storage.rs and events.rs, compiled unchanged, and called with document 01's records and images.
+//! The contract's lib.rs, storage.rs and events.rs, compiled unchanged, and called with the records and images of docs/FORMATS.md.
 pub mod errors;
 mod image;
 mod invoke;

@@ -1,4 +1,4 @@
-//! A stand-in for the contract's ttl.rs: storage rent is left out of document 01.
+//! A stand-in for the contract's ttl.rs: storage rent is left out.
 use soroban_sdk::Env;
 
 pub fn bump_instance(_: &Env) {}

@@ -1,4 +1,4 @@
-//! A stand-in for drip_common, from document 01's "Leaves".
+//! A stand-in for drip_common, from docs/FORMATS.md.
 use soroban_sdk::{Address, Env};
 
 /// Storage expiry is left out; the number is never compared.

@@ -1,4 +1,4 @@
-//! A stand-in for drip_stream. Stream calls are left out of document 01: every one fails.
+//! A stand-in for drip_stream. Stream calls are left out of the port: every one fails.
 use soroban_sdk::{Address, Env};
 
 pub struct DripStreamClient;

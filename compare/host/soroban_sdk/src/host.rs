@@ -8,7 +8,7 @@ use std::rc::Rc;
 pub type Map = HashMap<Vec<Leaf>, Vec<Leaf>>;
 pub type Area = fn(&mut Host) -> &mut Map;
 
-/// Document 01: an address is a byte below 64; 1 is the vault; tokens stand at 48 to 63.
+/// docs/FORMATS.md: an address is a byte below 64; 1 is the vault; tokens stand at 48 to 63.
 pub const VAULT: u8 = 1;
 pub const FIRST_TOKEN: u8 = 48;
 
@@ -57,7 +57,7 @@ pub fn trap(cause: Trap) -> ! {
 }
 
 impl Host {
-    /// A transfer by document 01: fails on an absent or frozen token, a sender short of the amount, a receiver passing
+    /// A transfer by docs/FORMATS.md: fails on an absent or frozen token, a sender short of the amount, a receiver passing
     /// 2^127 - 1. The sender loses the amount first; the receiver gets it less the toll, never below 0.
     pub(crate) fn transfer(&mut self, token: u8, from: u8, to: u8, amount: i128) -> Result<(), ()> {
         let slot = token.wrapping_sub(FIRST_TOKEN) as usize;
@@ -237,7 +237,7 @@ impl Events {
     }
 }
 
-/// Code upgrade is left out of document 01.
+/// Code upgrade is left out.
 pub struct Deployer;
 
 impl Deployer {

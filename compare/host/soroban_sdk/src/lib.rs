@@ -1,4 +1,4 @@
-//! A stand-in for soroban_sdk: what the contract uses of it, with the meanings of document 01.
+//! A stand-in for soroban_sdk: what the contract uses of it, with the meanings of docs/FORMATS.md.
 //! A refused or trapped call is undone by the caller of the host: it throws the host away, or takes the noted changes back.
 mod host;
 pub mod token;

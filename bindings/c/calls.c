@@ -1,0 +1,212 @@
+/* Calls all six functions of the token vault, and the readers and writers of its header, and checks their answers. Prints one line; its status
+ * is 1 if an answer was wrong. */
+#include "token_vault.h"
+#include <stdio.h>
+#include <string.h>
+
+#define OWNER 2
+#define PAYEE 4
+#define TOKEN 48
+
+static uint8_t image[TOKEN_VAULT_IMAGE_LENGTH], before[TOKEN_VAULT_IMAGE_LENGTH];
+static uint8_t journal[TOKEN_VAULT_JOURNAL_LENGTH_MAX];
+static uint8_t events[TOKEN_VAULT_EVENTS_LENGTH];
+static uint8_t record[TOKEN_VAULT_RECORD_LENGTH];
+static uint8_t value[16];
+static uint32_t count;
+static int checked, wrong;
+
+static void check(const char *what, uint64_t found, uint64_t wanted) {
+    checked++;
+    if (found != wanted) {
+        wrong++;
+        printf("%s: %llu, wanted %llu\n", what, (unsigned long long)found, (unsigned long long)wanted);
+    }
+}
+
+static void check_amount(const char *what, struct token_vault_amount amount, int64_t wanted) {
+    int64_t found = 0;
+    check(what, (uint64_t)token_vault_amount_to_int64(amount, &found), 1);
+    check(what, (uint64_t)found, (uint64_t)wanted);
+}
+
+/* A record of the owner, signed. */
+static void begin_record(uint8_t operation, int64_t amount) {
+    token_vault_record_begin(record, operation);
+    token_vault_record_set_caller(record, OWNER);
+    token_vault_record_add_signer(record, OWNER);
+    token_vault_record_set_amount(record, token_vault_amount_from_int64(amount));
+}
+
+static void begin_payout(int64_t amount) {
+    begin_record(TOKEN_VAULT_OP_WITHDRAW, amount);
+    token_vault_record_set_other(record, PAYEE);
+}
+
+static uint32_t call(void) {
+    return token_vault_call(image, sizeof image, journal, sizeof journal, record, sizeof record, events, sizeof events, value, &count);
+}
+
+static uint32_t call_without_journal(void) {
+    return token_vault_call_without_journal(image, sizeof image, record, sizeof record, events, sizeof events, value, &count);
+}
+
+static struct token_vault_amount holding(uint8_t account) {
+    return token_vault_get_amount(image + token_vault_holding_place(TOKEN, account));
+}
+
+/* Token 48 moves, account 2 holds 200 of it and becomes the owner, and the vault holds 100. */
+static void calls_without_journal(void) {
+    token_vault_record_begin(record, TOKEN_VAULT_OP_BALANCE);
+    check("balance of a zero image", call_without_journal(), TOKEN_VAULT_REFUSAL_NOT_INITIALIZED);
+    image[token_vault_token_place(TOKEN)] = TOKEN_VAULT_TOKEN_MOVING;
+    token_vault_put_amount(image + token_vault_holding_place(TOKEN, OWNER), token_vault_amount_from_int64(200));
+    begin_record(TOKEN_VAULT_OP_INITIALIZE, 100);
+    token_vault_record_set_token(record, TOKEN);
+    check("initialize", call_without_journal(), TOKEN_VAULT_DONE);
+    check("event count", count, 1);
+    check("event kind", token_vault_event_kind(token_vault_event(events, 0)), TOKEN_VAULT_EVENT_INITIALIZED);
+    check("event token", token_vault_event_second(token_vault_event(events, 0)), TOKEN);
+    begin_record(TOKEN_VAULT_OP_DEPOSIT, 101);
+    check("deposit above the limit", call_without_journal(), TOKEN_VAULT_REFUSAL_LIMIT_EXCEEDED);
+    begin_record(TOKEN_VAULT_OP_DEPOSIT, -1);
+    check("deposit below 0", call_without_journal(), TOKEN_VAULT_REFUSAL_INVALID_AMOUNT);
+    begin_record(TOKEN_VAULT_OP_DEPOSIT, 100);
+    check("deposit", call_without_journal(), TOKEN_VAULT_DONE);
+    check("event kind", token_vault_event_kind(events), TOKEN_VAULT_EVENT_DEPOSITED);
+    check("event depositor", token_vault_event_first(events), OWNER);
+    check_amount("event amount", token_vault_event_number(events, 0), 100);
+    check_amount("event balance", token_vault_event_number(events, 1), 100);
+    check_amount("credit", token_vault_get_amount(image + token_vault_credit_place(TOKEN, OWNER)), 100);
+    token_vault_record_begin(record, TOKEN_VAULT_OP_BALANCE);
+    check("balance", call_without_journal(), TOKEN_VAULT_DONE);
+    check_amount("value", token_vault_get_amount(value), 100);
+}
+
+static void transactions(void) {
+    memcpy(before, image, sizeof image);
+    check("undo of none", token_vault_undo(image, sizeof image, journal, sizeof journal), TOKEN_VAULT_REFUSAL_NO_TRANSACTION);
+    check("begin", token_vault_begin(image, sizeof image, journal, sizeof journal), TOKEN_VAULT_DONE);
+    check("begin again", token_vault_begin(image, sizeof image, journal, sizeof journal), TOKEN_VAULT_REFUSAL_TRANSACTION_OPEN);
+    begin_payout(40);
+    check("withdraw", call(), TOKEN_VAULT_DONE);
+    check("changed", memcmp(before, image, sizeof image) != 0, 1);
+    check("open", journal[TOKEN_VAULT_JOURNAL_AT_OPEN], 1);
+    check("calls", token_vault_get_u16(journal + TOKEN_VAULT_JOURNAL_AT_CALLS), 1);
+    check("undo", token_vault_undo(image, sizeof image, journal, sizeof journal), TOKEN_VAULT_DONE);
+    check("undone", memcmp(before, image, sizeof image) == 0, 1);
+    check("undo", token_vault_undo(image, sizeof image, journal, sizeof journal), TOKEN_VAULT_REFUSAL_NOTHING_TO_UNDO);
+    check("withdraw", call(), TOKEN_VAULT_DONE);
+    check("rollback", token_vault_rollback(image, sizeof image, journal, sizeof journal), TOKEN_VAULT_DONE);
+    check("rolled back", memcmp(before, image, sizeof image) == 0, 1);
+    check("begin", token_vault_begin(image, sizeof image, journal, sizeof journal), TOKEN_VAULT_DONE);
+    check("withdraw", call(), TOKEN_VAULT_DONE);
+    check("commit", token_vault_commit(image, sizeof image, journal, sizeof journal), TOKEN_VAULT_DONE);
+    check_amount("kept", holding(PAYEE), 40);
+    check("closed", journal[TOKEN_VAULT_JOURNAL_AT_OPEN], 0);
+}
+
+static void buffers_that_are_refused(void) {
+    check("short record", token_vault_call_without_journal(image, sizeof image, record, 447, events, sizeof events, value, &count),
+          TOKEN_VAULT_REFUSAL_INVALID_RECORD);
+    check("short events", token_vault_call_without_journal(image, sizeof image, record, sizeof record, events, 895, value, &count),
+          TOKEN_VAULT_REFUSAL_INVALID_EVENT_BUFFER);
+    check("short image", token_vault_begin(image, 100, journal, sizeof journal), TOKEN_VAULT_REFUSAL_INVALID_IMAGE);
+    check("short journal", token_vault_begin(image, sizeof image, journal, 47), TOKEN_VAULT_REFUSAL_INVALID_JOURNAL);
+    begin_record(31, 0);
+    check("operation 31", call_without_journal(), TOKEN_VAULT_REFUSAL_INVALID_RECORD);
+}
+
+/* Two payouts by items, of which the first is to address 10 and the second to address 63. */
+static void items(void) {
+    begin_record(TOKEN_VAULT_OP_WITHDRAW_BATCH, 0);
+    check("item", (uint64_t)token_vault_record_add_item(record, 10, token_vault_amount_from_int64(25)), 1);
+    check("item", (uint64_t)token_vault_record_add_item(record, 63, token_vault_amount_from_int64(35)), 1);
+    check("withdraw_batch", call_without_journal(), TOKEN_VAULT_DONE);
+    check("event count", count, 2);
+    check("second event", token_vault_event_second(token_vault_event(events, 1)), 63);
+    check("by operator", token_vault_event_yes(token_vault_event(events, 1)), 0);
+    check_amount("first is paid", holding(10), 25);
+    check_amount("second is paid", holding(63), 35);
+    while (token_vault_record_add_item(record, 10, token_vault_amount_from_int64(1))) continue;
+    check("items", token_vault_record_item_count(record), TOKEN_VAULT_ITEMS_MAX);
+    check("item address", token_vault_record_item_address(record, 1), 63);
+    check_amount("item amount", token_vault_record_item_amount(record, 1), 35);
+}
+
+static void fields(void) {
+    token_vault_record_begin(record, TOKEN_VAULT_OP_APPROVE_TOKEN);
+    token_vault_record_set_caller(record, 7);
+    token_vault_record_set_token(record, 49);
+    token_vault_record_set_other(record, 8);
+    token_vault_record_set_flag(record, 5);
+    token_vault_record_set_timestamp(record, 0x0102030405060708u);
+    token_vault_record_set_ledger_sequence(record, 0xfffefdfcu);
+    token_vault_record_add_signer(record, 0);
+    token_vault_record_add_signer(record, 63);
+    token_vault_record_add_signer(record, 64);
+    token_vault_record_set_amount(record, token_vault_amount_from_int64(INT64_MIN));
+    token_vault_record_set_fee(record, token_vault_amount_from_int64(-2));
+    check("operation", token_vault_record_operation(record), 20);
+    check("caller", token_vault_record_caller(record), 7);
+    check("token", token_vault_record_token(record), 49);
+    check("other", token_vault_record_other(record), 8);
+    check("flag", token_vault_record_flag(record), 1);
+    check("timestamp", token_vault_record_timestamp(record), 0x0102030405060708u);
+    check("first byte of the timestamp", record[8], 8);
+    check("ledger sequence", token_vault_record_ledger_sequence(record), 0xfffefdfcu);
+    check("signers", token_vault_record_signers(record), 0x8000000000000001u);
+    check_amount("amount", token_vault_record_amount(record), INT64_MIN);
+    check_amount("fee", token_vault_record_fee(record), -2);
+    check("last byte of the fee", record[63], 0xff);
+    token_vault_record_set_seconds(record, 60);
+    check("seconds", token_vault_record_seconds(record), 60);
+    check("first byte of the seconds", record[32], 60);
+    token_vault_put_u16(record, 0x1234);
+    check("two bytes", token_vault_get_u16(record), 0x1234);
+}
+
+static void amounts(void) {
+    struct token_vault_amount large = {0, 1}, low = {(uint64_t)INT64_MAX, -1}, greatest = {UINT64_MAX, INT64_MAX}, least = {0, INT64_MIN};
+    uint8_t bytes[16];
+    int64_t found = 5;
+    check("2^64", (uint64_t)token_vault_amount_to_int64(large, &found), 0);
+    check("-2^64 + 2^63 - 1", (uint64_t)token_vault_amount_to_int64(low, &found), 0);
+    check("2^127 - 1", (uint64_t)token_vault_amount_to_int64(greatest, &found), 0);
+    check("left as it was", (uint64_t)found, 5);
+    check_amount("greatest of 64 bits", token_vault_amount_from_int64(INT64_MAX), INT64_MAX);
+    token_vault_put_amount(bytes, least);
+    check("last byte of -2^127", bytes[15], 0x80);
+    check("high half of -2^127", token_vault_get_amount(bytes).high == INT64_MIN, 1);
+    token_vault_put_amount(bytes, greatest);
+    check("high half of 2^127 - 1", token_vault_get_amount(bytes).high == INT64_MAX, 1);
+    check("low half of 2^127 - 1", token_vault_get_amount(bytes).low, UINT64_MAX);
+}
+
+static int is_refusal(uint32_t number) {
+    return (number >= 1 && number <= 23) || (number >= 30 && number <= 37);
+}
+
+static void refusals(void) {
+    uint32_t number, names = 0, sentences = 0;
+    for (number = 0; number < 100; number++) {
+        names += (token_vault_refusal_name(number) != NULL) == is_refusal(number);
+        sentences += (token_vault_refusal_sentence(number) != NULL) == is_refusal(number);
+    }
+    check("names", names, 100);
+    check("sentences", sentences, 100);
+    check("name", strcmp(token_vault_refusal_name(TOKEN_VAULT_REFUSAL_LIMIT_EXCEEDED), "LimitExceeded") == 0, 1);
+    check("sentence", strcmp(token_vault_refusal_sentence(TOKEN_VAULT_REFUSAL_CONTRACT_PAUSED), "The vault is paused.") == 0, 1);
+}
+
+int main(void) {
+    calls_without_journal();
+    transactions();
+    buffers_that_are_refused();
+    items();
+    fields();
+    amounts();
+    refusals();
+    printf("calls: %d checks, %d wrong\n", checked, wrong);
+    return wrong != 0;
+}

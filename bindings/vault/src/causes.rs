@@ -1,0 +1,254 @@
+//! Why a call is refused: its causes in the order in which they are looked at (docs/FORMATS.md).
+use crate::calls::Transaction;
+use token_vault::{Operation, Refusal};
+
+/// A refusal of a call, and what brings it about.
+#[derive(Clone, Copy, Debug, PartialEq, Eq)]
+pub struct Cause {
+    pub refusal: Refusal,
+    pub text: &'static str,
+}
+
+const fn cause(refusal: Refusal, text: &'static str) -> Cause {
+    Cause { refusal, text }
+}
+
+const STATE: [Cause; 2] =
+    [cause(Refusal::InvalidImage, "the image is not good"), cause(Refusal::InvalidJournal, "the journal, where there is one, is not good")];
+const FORM: [Cause; 2] = [
+    cause(Refusal::InvalidRecord, "the record's length, an address, a flag or the number of items is out of range"),
+    cause(Refusal::InvalidEventBuffer, "the event buffer has not 896 bytes"),
+];
+const ROOM: [Cause; 1] = [cause(Refusal::JournalFull, "a transaction is open, and its journal has no room for the call")];
+
+const PAUSED: [Cause; 1] = [cause(Refusal::ContractPaused, "the vault is paused")];
+const NOT_INITIALIZED: Cause = cause(Refusal::NotInitialized, "the vault is not initialised");
+const UNSIGNED: Cause = cause(Refusal::SignatureMissing, "the caller is not among the signers");
+const OWNER: [Cause; 3] = [NOT_INITIALIZED, cause(Refusal::NotAuthorized, "the caller is not the owner"), UNSIGNED];
+const SHARED: [Cause; 3] = [NOT_INITIALIZED, cause(Refusal::NotAuthorized, "the caller is neither the owner nor the operator"), UNSIGNED];
+
+const AMOUNT: Cause = cause(Refusal::InvalidAmount, "the amount is not above 0");
+const LIMIT: Cause = cause(Refusal::InvalidAmount, "the limit is not above 0");
+const NO_ITEM: Cause = cause(Refusal::InvalidAmount, "there is no item");
+const MOST: Cause = cause(Refusal::DepositExceedsMax, "the amount is above 10^30");
+const DEPOSIT_AMOUNT: [Cause; 2] = [AMOUNT, MOST];
+
+const FUNDING: [Cause; 4] = [
+    cause(Refusal::TokenNotApproved, "the default token is not approved"),
+    cause(Refusal::ArithmeticOverflow, "the vault's holding plus what is paid in passes 2^127 - 1"),
+    cause(Refusal::LimitExceeded, "the vault's holding plus what is paid in is above the vault limit"),
+    cause(Refusal::VaultBalanceChanged, "the snapshot of this ledger sequence shows another holding of the vault"),
+];
+const TRANSFER: Cause = cause(Refusal::TokenCallFailed, "the transfer fails: the token is frozen, or the sender is short of the amount");
+const RECEIVED: Cause =
+    cause(Refusal::DepositTransferFailed, "afterwards the vault's holding is not what it should be, as when the token takes a toll");
+const CREDIT: Cause = cause(Refusal::ArithmeticOverflow, "the depositor's credit plus the amount passes 2^127 - 1");
+
+const OPERATOR_LIMIT: Cause = cause(Refusal::LimitExceeded, "the caller is not the owner, and no operator limit is set or it is passed");
+const PAYOUT: [Cause; 2] = [
+    cause(Refusal::TokenCallFailed, "a transfer fails: the token is frozen, or the receiver would pass 2^127 - 1"),
+    cause(Refusal::WithdrawTransferFailed, "afterwards the vault's holding is not what it should be, as when the vault pays itself"),
+];
+const ABSENT: Cause = cause(Refusal::TokenCallFailed, "there is no such token");
+const ZERO_TOKEN: Cause = cause(Refusal::InvalidToken, "the token is address 0");
+
+/// All causes of an operation, those of every call before and after its own.
+pub fn of_operation(operation: Operation) -> Vec<Cause> {
+    let room: &[Cause] = if operation.is_view() { &[] } else { &ROOM };
+    [&STATE, &FORM, own(operation).as_slice(), room].concat()
+}
+
+/// All causes of a call on the journal.
+pub fn of_transaction(transaction: Transaction) -> Vec<Cause> {
+    let own: &[Cause] = match transaction {
+        Transaction::Begin => &[cause(Refusal::TransactionOpen, "a transaction is open already")],
+        Transaction::Commit | Transaction::Rollback => &[NO_TRANSACTION],
+        Transaction::Undo => &[NO_TRANSACTION, cause(Refusal::NothingToUndo, "the transaction has no call, or all are undone")],
+    };
+    [&STATE, own].concat()
+}
+
+const NO_TRANSACTION: Cause = cause(Refusal::NoTransaction, "no transaction is open");
+
+fn own(operation: Operation) -> Vec<Cause> {
+    match operation {
+        Operation::Initialize | Operation::ApproveToken => setup(operation),
+        Operation::Deposit
+        | Operation::DepositWithFee
+        | Operation::BatchDeposit
+        | Operation::DepositToken
+        | Operation::DepositWithFailureReport => deposits(operation),
+        Operation::Withdraw | Operation::WithdrawBatch | Operation::WithdrawToken => payouts(operation),
+        Operation::ProposeOwner | Operation::AcceptOwner | Operation::SetOwnerProposalTtl => handover(operation),
+        Operation::InitiateEmergencyMigration | Operation::ExecuteEmergencyMigration | Operation::CancelEmergencyMigration => {
+            migration(operation)
+        }
+        Operation::OutsideMove | Operation::Freeze => outside(operation),
+        _ if operation.is_view() => views(operation),
+        _ => settings(operation),
+    }
+}
+
+fn setup(operation: Operation) -> Vec<Cause> {
+    match operation {
+        Operation::Initialize => vec![
+            cause(Refusal::SignatureMissing, "the owner is not among the signers"),
+            LIMIT,
+            ZERO_TOKEN,
+            ABSENT,
+            cause(Refusal::AlreadyInitialized, "the vault was initialised before"),
+        ],
+        _ => [
+            &OWNER[..],
+            &[
+                cause(Refusal::InvalidToken, "the token is to be approved and is address 0"),
+                cause(Refusal::TokenCallFailed, "the token is to be approved and is not there"),
+            ],
+        ]
+        .concat(),
+    }
+}
+
+fn deposits(operation: Operation) -> Vec<Cause> {
+    let checks = [&PAUSED[..], &SHARED, &DEPOSIT_AMOUNT, &FUNDING];
+    match operation {
+        Operation::Deposit => [checks.concat(), vec![TRANSFER, RECEIVED]].concat(),
+        Operation::DepositWithFee => {
+            let fee = [
+                cause(Refusal::InvalidAmount, "the fee is below 0, the gross amount not above 0, or the fee not below it"),
+                cause(Refusal::DepositExceedsMax, "the gross amount is above 10^30"),
+            ];
+            [&fee[..], &PAUSED, &SHARED, &FUNDING, &[TRANSFER, RECEIVED]].concat()
+        }
+        Operation::BatchDeposit => {
+            let item = [
+                cause(Refusal::InvalidAmount, "item by item: the amount is not above 0"),
+                cause(Refusal::DepositExceedsMax, "item by item: the amount is above 10^30"),
+                cause(Refusal::SignatureMissing, "item by item: the depositor is not among the signers"),
+            ];
+            [&PAUSED[..], &[NO_ITEM, NOT_INITIALIZED], &item, &FUNDING, &[TRANSFER, RECEIVED]].concat()
+        }
+        Operation::DepositToken => [&PAUSED[..], &SHARED, &DEPOSIT_AMOUNT, &TOKEN_FUNDING].concat(),
+        _ => [checks.concat(), vec![RECEIVED, CREDIT]].concat(),
+    }
+}
+
+const TOKEN_FUNDING: [Cause; 9] = [
+    cause(Refusal::TokenNotApproved, "the token is not approved"),
+    ABSENT,
+    cause(Refusal::VaultBalanceChanged, "the snapshot of this ledger sequence shows another holding of the vault"),
+    cause(Refusal::ArithmeticOverflow, "the token has a cap, and the vault's holding plus the amount passes 2^127 - 1"),
+    cause(Refusal::LimitExceeded, "the token has a cap, and the vault's holding plus the amount is above it"),
+    cause(Refusal::TokenCallFailed, "the transfer fails: the token is frozen, the sender is short, or the vault would pass 2^127 - 1"),
+    cause(Refusal::ArithmeticOverflow, "the vault's holding plus the amount passes 2^127 - 1, though less arrives"),
+    RECEIVED,
+    CREDIT,
+];
+
+fn payouts(operation: Operation) -> Vec<Cause> {
+    let above_holding = cause(Refusal::LimitExceeded, "the sum is above the vault's holding");
+    match operation {
+        Operation::Withdraw => [
+            &PAUSED[..],
+            &SHARED,
+            &[AMOUNT, OPERATOR_LIMIT, cause(Refusal::LimitExceeded, "the amount is above the vault's holding")],
+            &PAYOUT,
+        ]
+        .concat(),
+        Operation::WithdrawBatch => {
+            let item = [
+                cause(Refusal::InvalidAmount, "item by item: the amount is not above 0"),
+                cause(Refusal::ArithmeticOverflow, "item by item: the sum so far passes 2^127 - 1"),
+            ];
+            [&PAUSED[..], &SHARED, &[NO_ITEM], &item, &[OPERATOR_LIMIT, above_holding], &PAYOUT].concat()
+        }
+        _ => {
+            let token = [
+                cause(Refusal::LimitExceeded, "the amount is above the vault's holding of the token"),
+                cause(Refusal::LimitExceeded, "the caller is not the owner, and the amount is above the caller's credit"),
+            ];
+            [&PAUSED[..], &SHARED, &[AMOUNT, OPERATOR_LIMIT, ABSENT], &token, &PAYOUT].concat()
+        }
+    }
+}
+
+fn settings(operation: Operation) -> Vec<Cause> {
+    match operation {
+        Operation::SetOperatorWithdrawLimit => [&PAUSED[..], &OWNER, &[LIMIT]].concat(),
+        Operation::SetTokenMaxLimit => [&PAUSED[..], &SHARED, &[LIMIT]].concat(),
+        Operation::SetLimit => {
+            let own = [
+                NOT_INITIALIZED,
+                LIMIT,
+                cause(Refusal::LimitExceeded, "the limit is below the vault's holding"),
+                cause(Refusal::NotAuthorized, "the caller is not the owner, nor, where the limit is not raised, the operator"),
+                UNSIGNED,
+            ];
+            [&PAUSED[..], &own].concat()
+        }
+        Operation::Pause => [&OWNER[..], &[cause(Refusal::AlreadyPaused, "the vault is paused already")]].concat(),
+        Operation::Unpause => [&OWNER[..], &[cause(Refusal::NotPaused, "the vault is not paused")]].concat(),
+        _ => OWNER.to_vec(),
+    }
+}
+
+fn handover(operation: Operation) -> Vec<Cause> {
+    match operation {
+        Operation::ProposeOwner => [&OWNER[..], &[cause(Refusal::InvalidParam, "the new owner is address 0")]].concat(),
+        Operation::SetOwnerProposalTtl => [&OWNER[..], &[cause(Refusal::InvalidAmount, "the time to live is 0")]].concat(),
+        _ => vec![
+            cause(Refusal::NoPendingOwner, "no new owner is proposed"),
+            cause(Refusal::NotPendingOwner, "the caller is not the proposed owner"),
+            UNSIGNED,
+            cause(Refusal::ArithmeticOverflow, "the time of the proposal plus the time to live passes 2^64 - 1"),
+            cause(Refusal::PendingOwnerExpired, "the time of the call is not before the time of the proposal plus the time to live"),
+        ],
+    }
+}
+
+fn migration(operation: Operation) -> Vec<Cause> {
+    let none = cause(Refusal::NoMigrationProposed, "no migration is under way");
+    let own = match operation {
+        Operation::InitiateEmergencyMigration => vec![
+            cause(Refusal::InvalidParam, "the destination is address 0"),
+            cause(Refusal::ArithmeticOverflow, "the time plus 172,800 s passes 2^64 - 1"),
+        ],
+        Operation::ExecuteEmergencyMigration => vec![
+            none,
+            cause(Refusal::TimelockNotExpired, "172,800 s have not passed since it was initiated"),
+            cause(Refusal::TokenCallFailed, "the transfer fails: the token is frozen, or the receiver would pass 2^127 - 1"),
+        ],
+        _ => vec![none],
+    };
+    [&OWNER[..], &own].concat()
+}
+
+fn views(operation: Operation) -> Vec<Cause> {
+    match operation {
+        Operation::Balance => vec![NOT_INITIALIZED],
+        Operation::EffectiveWithdrawLimit => {
+            let own = [
+                NOT_INITIALIZED,
+                cause(Refusal::NotAuthorized, "the caller is neither the owner nor the operator"),
+                cause(Refusal::LimitExceeded, "the caller is the operator, and no operator limit is set"),
+            ];
+            [&PAUSED[..], &own].concat()
+        }
+        Operation::IsTokenCompliant => vec![cause(Refusal::TokenCallFailed, "there is no such token, and the address is not 0")],
+        _ => Vec::new(),
+    }
+}
+
+fn outside(operation: Operation) -> Vec<Cause> {
+    match operation {
+        Operation::OutsideMove => vec![
+            cause(Refusal::InvalidParam, "the sender is the vault"),
+            AMOUNT,
+            cause(
+                Refusal::TokenCallFailed,
+                "the transfer fails: there is no such token, it is frozen, the sender is short of the amount, or the receiver would pass 2^127 - 1",
+            ),
+        ],
+        _ => vec![cause(Refusal::InvalidParam, "there is no such token")],
+    }
+}
