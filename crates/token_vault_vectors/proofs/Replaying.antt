@@ -1,22 +1,23 @@
--- A call that was read, the calls of a list one after another, and a list.
+-- A call that was read, the calls of a list one after another, a list, and the numbers of the faults.
 use mathlib.Core.Path.{_≡_, refl, sym, ap, _∙_}
 use mathlib.Core.Bool.{Bool, true, false}
 use mathlib.Core.List.{List, [], _∷_, _++_}
-use mathlib.Core.Logic.{_⊎_}
-use Prim.Native.Nat.{ℕ, _+_, _≤_}
+use mathlib.Core.Logic.{_⊎_, inl, inr, ⊎-elim}
+use Prim.Native.Nat.{ℕ, zero, suc, _+_, _≤_}
 use native.Mathlib.Omega.{arith}
-use lib.Dec.{eqb, leb}
+use lib.Dec.{leb}
 use lib.ListN.{length, take, getD, replicate, length-append}
 use lib.Seq.{take-at}
 use borrow.Author.Tests.{eq-eqb, ne-eqb, leb-true}
 use Rattle.fields.specs.Bytes.{le}
-use Rattle.fields.specs.Logic.{_and_, and-l, and-r}
+use Rattle.fields.specs.Rules.{passed, free, unlinked, verdict-in, chain-in}
 use Rattle.journal.specs.Calls.{Call, State}
 use Rattle.journal.specs.Step.{vault}
 use Rattle.history.specs.Kept.{run}
 use Rattle.token_vault.specs.Vault.{vaultStep}
 use Rattle.vault_vectors.specs.Vectors.{transaction, PrintsStep}
-use Rattle.token_vault_vectors.specs.Replay.{callOf, wholeCall, AnswersCall, TakesCalls, wholeState, TakesState, RunsList, wholeHead, TakesList}
+use Rattle.token_vault_vectors.specs.Faults.{headRules, headFault, stateFault, callHeadRules, callHeadFault, recordFault, callFault}
+use Rattle.token_vault_vectors.specs.Replay.{callOf, AnswersCall, IsCallFault, TakesCalls, TakesState, RunsList, TakesList, NextList, IsFault, ListsEnd}
 
 -- ---- a call
 module _ (s : State) (h r : List ℕ) {text image journal : List ℕ} where
@@ -29,17 +30,22 @@ module _ (s : State) (h r : List ℕ) {text image journal : List ℕ} where
   unfolding callOf
   transaction-called p z = rw (ne-eqb (getD h 0 0) 0 z) p
 
-module _ (headRead recordRead : ℕ) (h b : List ℕ) where
-  pub events-fit : true ≡ wholeCall headRead h recordRead → le 2 h 4 ≤ 1024
-  unfolding wholeCall
-  events-fit e = leb-true (le 2 h 4) 1024 (and-r (eqb recordRead (le 2 h 2)) _ (and-r (eqb headRead 8) _ (sym e)))
+module _ (headRead recordRead : ℕ) (h b : List ℕ) {fault : ℕ} (e : fault ≡ callFault headRead h recordRead) where
+  pub events-fit : fault ≡ 0 → le 2 h 4 ≤ 1024
+  unfolding callFault callHeadFault
+  events-fit z = passed (callHeadRules headRead h) refl (unlinked _ (sym e ∙ z) .0) .1 .1 .1 .1 .1 .0
 
-  pub call-left : {image journal text : List ℕ} → false ≡ wholeCall headRead h recordRead → AnswersCall (vault image journal) headRead h recordRead b false text image journal
-  call-left e = record { decided = e; whole = λ f. absurd (let z : _≡_ {A = ℕ} 0 1 = cc in omega arith); other = λ _. refl }
+  pub call-left : {image journal text : List ℕ} → (fault ≡ 0 → ⊥) → AnswersCall (vault image journal) headRead h recordRead b fault text image journal
+  call-left n = record { decided = e; whole = λ z. absurd (n z); other = λ _. refl }
 
-  pub call-answered : (s : State) {text image journal : List ℕ} → true ≡ wholeCall headRead h recordRead
-      → PrintsStep (vaultStep s (callOf h (take recordRead b))) text image journal → AnswersCall s headRead h recordRead b true text image journal
-  call-answered s e p = record { decided = e; whole = λ _. p; other = λ f. absurd (let z : _≡_ {A = ℕ} 0 1 = cc in omega arith) }
+  pub call-answered : (s : State) {text image journal : List ℕ} → fault ≡ 0
+      → PrintsStep (vaultStep s (callOf h (take recordRead b))) text image journal → AnswersCall s headRead h recordRead b 0 text image journal
+  call-answered s z p = record { decided = sym z ∙ e; whole = λ _. p; other = λ n. absurd (n refl) }
+
+-- a record is no longer than 512 bytes
+pub record-fits : (headRead : ℕ) (h : List ℕ) → callHeadFault headRead h ≡ 0 → le 2 h 2 ≤ 512
+unfolding callHeadFault
+record-fits headRead h z = passed (callHeadRules headRead h) refl z .1 .1 .1 .1 .0
 
 -- ---- calls
 pub record Taken (before after : State) (taken : ℕ) : Type 0 where
@@ -70,38 +76,89 @@ module _ {before s : State} {k : ℕ} (t : Taken before s k) where
   pub none-more : {after : State} → after ≡ s → Taken before after k
   none-more e = record { calls = t .calls; counted = t .counted; carried = e ∙ t .carried }
 
-pub ended : {before after : State} {count k : ℕ} {isWhole isWritten : Bool} → Taken before after k → k ≤ count → (k ≡ count) ⊎ ((isWhole ≡ false) ⊎ (isWritten ≡ false))
-    → TakesCalls before after count k isWhole isWritten
+pub ended : {before after : State} {count k fault : ℕ} {isWritten : Bool} → Taken before after k → k ≤ count
+    → ((k ≡ count) × (fault ≡ 0)) ⊎ (IsCallFault fault ⊎ ((isWritten ≡ false) × (fault ≡ 0))) → TakesCalls before after count k fault isWritten
 ended t h e = record { calls = t .calls; counted = t .counted; within = h; carried = t .carried; ended = e }
 
+pub call-faulty : (headRead : ℕ) (h : List ℕ) (recordRead : ℕ) {fault : ℕ} → fault ≡ callFault headRead h recordRead → (fault ≡ 0 → ⊥) → IsCallFault fault
+call-faulty headRead h recordRead e n = record { headRead = headRead; head = h; recordRead = recordRead; decided = e; some = omega arith }
+
 -- ---- a list
-module _ (imageRead journalRead : ℕ) (before : State) where
-  pub state-whole : {after : State} {count taken : ℕ} {isWhole isWritten : Bool} → true ≡ wholeState imageRead journalRead before
-      → TakesCalls before after count taken isWhole isWritten → TakesState before after imageRead journalRead count taken isWhole isWritten
-  state-whole e t = record { whole = λ _. t; other = λ f. absurd (let z : _≡_ {A = ℕ} 0 1 = cc in omega arith) }
+module _ (imageRead journalRead : ℕ) (before : State) {fault : ℕ} (e : fault ≡ stateFault imageRead journalRead before) where
+  pub state-whole : {after : State} {count taken last : ℕ} {isWritten : Bool} → fault ≡ 0
+      → TakesCalls before after count taken last isWritten → TakesState before after imageRead journalRead count taken last isWritten
+  state-whole z t = record { whole = λ _. t; other = λ n. absurd (n (sym e ∙ z)) }
 
-  pub state-other : {count : ℕ} {isWritten : Bool} → false ≡ wholeState imageRead journalRead before → TakesState before before imageRead journalRead count 0 false isWritten
-  state-other e = record { whole = λ f. absurd (let z : _≡_ {A = ℕ} 0 1 = cc in omega arith); other = λ _. (refl, refl, refl) }
+  pub state-other : {count : ℕ} {isWritten : Bool} → (fault ≡ 0 → ⊥) → TakesState before before imageRead journalRead count 0 fault isWritten
+  state-other n = record { whole = λ z. absurd (n (e ∙ z)); other = λ _. (refl, e, refl) }
 
-pub list-other : (headRead : ℕ) (h : List ℕ) {image journal : List ℕ} {isWritten : Bool} → false ≡ wholeHead headRead h → TakesList headRead h image journal 0 false isWritten
-list-other headRead h e = record { whole = λ f. absurd (let z : _≡_ {A = ℕ} 0 1 = cc in omega arith); other = λ _. (refl, refl) }
+module _ (headRead : ℕ) (h : List ℕ) {fault : ℕ} (e : fault ≡ headFault headRead h) where
+  pub list-other : {image journal : List ℕ} {isWritten : Bool} → (fault ≡ 0 → ⊥) → TakesList headRead h image journal 0 fault isWritten
+  list-other n = record { whole = λ z. absurd (n (e ∙ z)); other = λ _. (e, refl) }
 
--- image and journal, with what follows them in their buffers
-pub list-run : (headRead : ℕ) (h image journal rest more : List ℕ) {count taken : ℕ} {isWhole isWritten : Bool} → true ≡ wholeHead headRead h
-    → length image ≡ le 4 h 0 → length journal ≡ le 4 h 4 → count ≡ le 4 h 8 → RunsList image journal count taken isWhole isWritten
-    → TakesList headRead h (image ++ rest) (journal ++ more) taken isWhole isWritten
-list-run headRead h image journal rest more e f g k r =
-    record {
-      whole = λ _. rw (take-at image rest (le 4 h 0) f, take-at journal more (le 4 h 4) g, ← k) r;
-      other = λ q. absurd (let z : _≡_ {A = ℕ} 0 1 = cc in omega arith);
-    }
+  -- image and journal, with what follows them in their buffers
+  pub list-run : (image journal rest more : List ℕ) {count taken last : ℕ} {isWritten : Bool} → fault ≡ 0
+      → length image ≡ le 4 h 0 → length journal ≡ le 4 h 4 → count ≡ le 4 h 8 → RunsList image journal count taken last isWritten
+      → TakesList headRead h (image ++ rest) (journal ++ more) taken last isWritten
+  list-run image journal rest more z f g k r =
+      record {
+        whole = λ _. rw (take-at image rest (le 4 h 0) f, take-at journal more (le 4 h 4) g, ← k) r;
+        other = λ n. absurd (n (sym e ∙ z));
+      }
 
--- the lengths in its head
-module _ (headRead : ℕ) (h : List ℕ) (e : true ≡ wholeHead headRead h) where
-  pub image-fits : le 4 h 0 ≤ 36848
-  unfolding wholeHead
-  image-fits = leb-true (le 4 h 0) 36848 (and-l _ (leb (le 4 h 4) 48048) (and-r (eqb headRead 16) _ (sym e)))
+  -- the lengths in its head
+  pub image-fits : fault ≡ 0 → le 4 h 0 ≤ 36848
+  unfolding headFault
+  image-fits z = free (headRules headRead h) refl e z .1 .0
 
-  pub journal-fits : le 4 h 4 ≤ 48048
-  unfolding wholeHead
-  journal-fits = leb-true (le 4 h 4) 48048 (and-r (leb (le 4 h 0) 36848) _ (and-r (eqb headRead 16) _ (sym e)))
+  pub journal-fits : fault ≡ 0 → le 4 h 4 ≤ 48048
+  unfolding headFault
+  journal-fits z = free (headRules headRead h) refl e z .1 .1 .0
+
+-- ---- the fault at which the lists ended is one of the thirteen
+abbrev known : ℕ → Bool
+known n = leb n 13
+
+head-known : (headRead : ℕ) (h : List ℕ) → known (headFault headRead h) ≡ true
+unfolding headFault
+head-known headRead h = verdict-in known (headRules headRead h) refl
+
+state-known : (imageRead journalRead : ℕ) (s : State) → known (stateFault imageRead journalRead s) ≡ true
+unfolding stateFault
+state-known imageRead journalRead s = verdict-in known _ refl
+
+call-known : (headRead : ℕ) (h : List ℕ) (recordRead : ℕ) → known (callFault headRead h recordRead) ≡ true
+unfolding callFault callHeadFault recordFault
+call-known headRead h recordRead = chain-in known _ (verdict-in known (callHeadRules headRead h) refl, (verdict-in known _ refl, refl))
+
+calls-known : {before after : State} {count taken fault : ℕ} {isWritten : Bool} → TakesCalls before after count taken fault isWritten → known fault ≡ true
+calls-known t =
+    ⊎-elim (λ w. rw (w .1) refl)
+    (λ v. ⊎-elim (λ w. rw (w .decided) (call-known (w .headRead) (w .head) (w .recordRead))) (λ w. rw (w .1) refl) v)
+    (t .ended)
+
+zero-or : (n : ℕ) → (n ≡ 0) ⊎ (n ≡ 0 → ⊥)
+zero-or zero = inl refl
+zero-or (suc n) = inr (λ e. omega arith)
+
+list-known : {image journal : List ℕ} {count taken fault : ℕ} {isWritten : Bool} → RunsList image journal count taken fault isWritten → known fault ≡ true
+list-known r =
+    let k = r .taken-from in
+    ⊎-elim (λ z. calls-known (k .whole z)) (λ n. rw (k .other n .1) (state-known (r .imageRead) (r .journalRead) (r .before)))
+    (zero-or (stateFault (r .imageRead) (r .journalRead) (r .before)))
+
+next-known : {headRead taken fault : ℕ} {isWritten : Bool} → NextList headRead taken fault isWritten → known fault ≡ true
+next-known {headRead} l =
+    ⊎-elim (λ z. rw (l .none z .0) refl)
+    (λ n. let t = l .listed n .listed in
+    ⊎-elim (λ z. list-known (t .whole z)) (λ m. rw (t .other m .0) (head-known headRead (l .head))) (zero-or (headFault headRead (l .head))))
+    (zero-or headRead)
+
+pub fault-known : {fault : ℕ} → IsFault fault → fault ≤ 13
+fault-known {fault} f = leb-true fault 13 (next-known (f .listed))
+
+pub list-faulty : {headRead taken fault : ℕ} {isWritten : Bool} → NextList headRead taken fault isWritten → (fault ≡ 0 → ⊥) → IsFault fault
+list-faulty l n = record { headRead = _; taken = _; isWritten = _; listed = l; some = omega arith }
+
+pub faulty : {taken headRead fault : ℕ} {isWritten : Bool} → ListsEnd taken headRead fault isWritten → (fault ≡ 0 → ⊥) → IsFault fault
+faulty e n = ⊎-elim (λ w. absurd (n (w .1))) (λ v. ⊎-elim (λ w. w) (λ u. ⊎-elim (λ w. absurd (n (w .1))) (λ w. absurd (n (w .1))) u) v) e

@@ -1,2 +1,3 @@
 -- What the contracts cite.
+pub mod Faults
 pub mod Replay

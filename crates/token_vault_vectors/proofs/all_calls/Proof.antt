@@ -4,10 +4,9 @@ use mathlib.Core.Logic.{inl, inr}
 use Prim.Native.Nat.{_-_, _≤_}
 use native.Mathlib.Omega.{arith}
 use lib.ListN.{length}
-use borrow.Author.Tests.{not-true, not-false}
 use borrow.Author.Needs.{needs}
 use Rattle.journal.specs.Step.{vault}
-use Rattle.token_vault_vectors.proofs.Replaying.{Taken, none-taken, one-more, none-more, ended}
+use Rattle.token_vault_vectors.proofs.Replaying.{Taken, none-taken, one-more, none-more, ended, call-faulty}
 use Rattle.token_vault_vectors.proofs.all_calls.Statement.{statement}
 use Rattle.token_vault_vectors.proofs.all_calls.Tie as tie
 
@@ -32,7 +31,7 @@ same-length-2 : tie.Need-same-length-2 Inv-loop μ-loop
 same-length-2 c = search needs
 
 returns : tie.Need-returns Inv-loop μ-loop
-returns c = ended (none-more (c .before .before .before .before .before .before .before .before .before .before .before .before .before .before .loop .inv .0) (c .before .before .before .before .before .before .next-call .ensures .other (not-true _ (c .if1 .taken)))) (omega arith) (inr (inl refl))
+returns c = ended (none-more (c .before .before .before .before .before .before .before .before .before .before .before .before .before .before .loop .inv .0) (c .before .before .before .before .before .before .next-call .ensures .other (c .if1 .taken))) (omega arith) (inr (inl (call-faulty _ _ _ (c .before .before .before .before .before .before .next-call .ensures .decided) (c .if1 .taken))))
 
 add-taken : tie.Need-add-taken Inv-loop μ-loop
 add-taken c = search needs
@@ -44,13 +43,13 @@ same-length-4 : tie.Need-same-length-4 Inv-loop μ-loop
 same-length-4 c = search needs
 
 returns-2 : tie.Need-returns-2 Inv-loop μ-loop
-returns-2 c = ended (one-more (c .before .before .before .before .before .before .before .before .before .before .before .before .before .before .before .before .loop .inv .0) _ (c .before .before .before .before .before .before .before .before .next-call .ensures .whole (not-false _ (c .before .before .if1 .left)))) (omega arith) (inr (inr refl))
+returns-2 c = ended (one-more (c .before .before .before .before .before .before .before .before .before .before .before .before .before .before .before .before .loop .inv .0) _ (c .before .before .before .before .before .before .before .before .next-call .ensures .whole (c .before .before .if1 .left))) (omega arith) (inr (inr (refl, refl)))
 
 loop-less : tie.Need-loop-less Inv-loop μ-loop
 loop-less c = search needs
 
 loop-again : tie.Need-loop-again Inv-loop μ-loop
-loop-again c = (one-more (c .before .before .before .before .before .before .before .before .before .before .before .before .before .before .before .before .loop .inv .0) _ (c .before .before .before .before .before .before .before .before .next-call .ensures .whole (not-false _ (c .before .before .if1 .left))), search needs, search needs, omega arith)
+loop-again c = (one-more (c .before .before .before .before .before .before .before .before .before .before .before .before .before .before .before .before .loop .inv .0) _ (c .before .before .before .before .before .before .before .before .next-call .ensures .whole (c .before .before .if1 .left)), search needs, search needs, omega arith)
 
 same-length-5 : tie.Need-same-length-5 Inv-loop μ-loop
 same-length-5 c = search needs
@@ -59,7 +58,7 @@ same-length-6 : tie.Need-same-length-6 Inv-loop μ-loop
 same-length-6 c = search needs
 
 returns-3 : tie.Need-returns-3 Inv-loop μ-loop
-returns-3 c = ended (c .before .loop .inv .0) (omega arith) (inl (omega arith))
+returns-3 c = ended (c .before .loop .inv .0) (omega arith) (inl (omega arith, refl))
 
 pub all-calls-spec : {M : Type 1} → statement M
 all-calls-spec =

@@ -1,19 +1,18 @@
 -- `fit_list` meets its contract.
-use mathlib.Core.Path.{sym, _∙_}
+use mathlib.Core.Path.{sym}
 use native.Mathlib.Omega.{arith}
 use lib.ListN.{length-take}
 use lib.Seq.{length-take-le}
-use borrow.Author.Tests.{not-true, not-false}
 use borrow.Author.Needs.{needs}
 use Rattle.token_vault_vectors.proofs.Replaying.{list-other, list-run, image-fits, journal-fits}
 use Rattle.token_vault_vectors.proofs.fit_list.Statement.{statement}
 use Rattle.token_vault_vectors.proofs.fit_list.Tie as tie
 
-is-whole-head-requires : tie.Need-is-whole-head-requires
-is-whole-head-requires c κs = search needs
+head-fault-requires : tie.Need-head-fault-requires
+head-fault-requires c κs = search needs
 
 returns : tie.Need-returns
-returns c = list-other _ _ (sym (not-true _ (c .if1 .taken)) ∙ c .before .is-whole-head .ensures)
+returns c = list-other _ _ (c .before .head-fault .ensures) (c .if1 .taken)
 
 get32-requires : tie.Need-get32-requires
 get32-requires c κs = search needs
@@ -31,16 +30,16 @@ get32-requires-3 : tie.Need-get32-requires-3
 get32-requires-3 c κs = search needs
 
 slice-relend-prefix-run-list : tie.Need-slice-relend-prefix-run-list
-slice-relend-prefix-run-list c = omega (arith, image-fits _ _ (sym (not-false _ (c .before .before .before .before .before .before .if1 .left)) ∙ c .before .before .before .before .before .before .before .is-whole-head .ensures), c .before .before .before .before .get32 .ensures)
+slice-relend-prefix-run-list c = omega (arith, image-fits _ _ (c .before .before .before .before .before .before .before .head-fault .ensures) (c .before .before .before .before .before .before .if1 .left), c .before .before .before .before .get32 .ensures)
 
 slice-aggregate-run-list : tie.Need-slice-aggregate-run-list
-slice-aggregate-run-list c = sym (length-take-le _ _ (omega (arith, image-fits _ _ (sym (not-false _ (c .before .before .before .before .before .before .before .if1 .left)) ∙ c .before .before .before .before .before .before .before .before .is-whole-head .ensures), c .before .before .before .before .before .get32 .ensures)))
+slice-aggregate-run-list c = sym (length-take-le _ _ (omega (arith, image-fits _ _ (c .before .before .before .before .before .before .before .before .head-fault .ensures) (c .before .before .before .before .before .before .before .if1 .left), c .before .before .before .before .before .get32 .ensures)))
 
 slice-relend-prefix-run-list-2 : tie.Need-slice-relend-prefix-run-list-2
-slice-relend-prefix-run-list-2 c = omega (arith, journal-fits _ _ (sym (not-false _ (c .before .before .before .before .before .before .before .if1 .left)) ∙ c .before .before .before .before .before .before .before .before .is-whole-head .ensures), c .before .before .before .get322 .ensures)
+slice-relend-prefix-run-list-2 c = omega (arith, journal-fits _ _ (c .before .before .before .before .before .before .before .before .head-fault .ensures) (c .before .before .before .before .before .before .before .if1 .left), c .before .before .before .get322 .ensures)
 
 slice-aggregate-run-list-2 : tie.Need-slice-aggregate-run-list-2
-slice-aggregate-run-list-2 c = sym (length-take-le _ _ (omega (arith, journal-fits _ _ (sym (not-false _ (c .before .before .before .before .before .before .before .before .if1 .left)) ∙ c .before .before .before .before .before .before .before .before .before .is-whole-head .ensures), c .before .before .before .before .get322 .ensures)))
+slice-aggregate-run-list-2 c = sym (length-take-le _ _ (omega (arith, journal-fits _ _ (c .before .before .before .before .before .before .before .before .before .head-fault .ensures) (c .before .before .before .before .before .before .before .before .if1 .left), c .before .before .before .before .get322 .ensures)))
 
 run-list-requires : tie.Need-run-list-requires
 run-list-requires c κs = search needs
@@ -52,15 +51,16 @@ same-length-2 : tie.Need-same-length-2
 same-length-2 c = search needs
 
 returns-2 : tie.Need-returns-2
-returns-2 c = let e = sym (not-false _ (c .before .before .before .before .before .before .before .before .before .before .before .before .before .if1 .left)) ∙ c .before .before .before .before .before .before .before .before .before .before .before .before .before .before .is-whole-head .ensures in
-    list-run _ _ _ _ _ _ e (omega (arith, image-fits _ _ e, length-take (c .before .before .before .before .before .before .before .before .before .before .before .get32 .result) (c .before .before .before .before .before .before .before .before .before .before .before .before .before .before .before .before .before .args .image .now), c .before .before .before .before .before .before .before .before .before .before .before .get32 .ensures))
-    (omega (arith, journal-fits _ _ e, length-take (c .before .before .before .before .before .before .before .before .before .get322 .result) (c .before .before .before .before .before .before .before .before .before .before .before .before .before .before .before .before .before .args .journal .now), c .before .before .before .before .before .before .before .before .before .get322 .ensures)) (c .before .before .before .before .before .before .before .get323 .ensures) (c .before .before .before .before .run-list .ensures)
+returns-2 c = let e = c .before .before .before .before .before .before .before .before .before .before .before .before .before .before .head-fault .ensures in
+    let z = c .before .before .before .before .before .before .before .before .before .before .before .before .before .if1 .left in
+    list-run _ _ e _ _ _ _ z (omega (arith, image-fits _ _ e z, length-take (c .before .before .before .before .before .before .before .before .before .before .before .get32 .result) (c .before .before .before .before .before .before .before .before .before .before .before .before .before .before .before .before .before .args .image .now), c .before .before .before .before .before .before .before .before .before .before .before .get32 .ensures))
+    (omega (arith, journal-fits _ _ e z, length-take (c .before .before .before .before .before .before .before .before .before .get322 .result) (c .before .before .before .before .before .before .before .before .before .before .before .before .before .before .before .before .before .args .journal .now), c .before .before .before .before .before .before .before .before .before .get322 .ensures)) (c .before .before .before .before .before .before .before .get323 .ensures) (c .before .before .before .before .run-list .ensures)
 
 pub fit-list-spec : {M : Type 1} → statement M
 fit-list-spec =
     tie.close
     (tie.spec
-    is-whole-head-requires
+    head-fault-requires
     returns
     get32-requires
     cast-n

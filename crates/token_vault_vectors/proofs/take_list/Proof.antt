@@ -1,16 +1,11 @@
 -- `take_list` meets its contract.
-use mathlib.Core.Path.{sym, _∙_}
 use borrow.Author.Needs.{needs}
 use Rattle.token_vault_vectors.proofs.Replaying.{state-whole, state-other}
-use Rattle.token_vault_vectors.specs.Replay.{wholeState}
 use Rattle.token_vault_vectors.proofs.take_list.Statement.{statement}
 use Rattle.token_vault_vectors.proofs.take_list.Tie as tie
 
-both-requires : tie.Need-both-requires
-both-requires c κs = search needs
-
-all-calls-requires : tie.Need-all-calls-requires
-all-calls-requires c κs = search needs
+state-fault-requires : tie.Need-state-fault-requires
+state-fault-requires c κs = search needs
 
 same-length : tie.Need-same-length
 same-length c = search needs
@@ -19,14 +14,29 @@ same-length-2 : tie.Need-same-length-2
 same-length-2 c = search needs
 
 returns : tie.Need-returns
-unfolding wholeState
-returns c = state-whole _ _ _ (sym (c .before .before .before .before .before .before .before .if1 .taken) ∙ c .before .before .before .before .before .before .before .before .both .ensures) (c .before .before .before .before .all-calls .ensures)
+returns c = state-other _ _ _ (c .before .state-fault .ensures) (c .if1 .taken)
+
+all-calls-requires : tie.Need-all-calls-requires
+all-calls-requires c κs = search needs
+
+same-length-3 : tie.Need-same-length-3
+same-length-3 c = search needs
+
+same-length-4 : tie.Need-same-length-4
+same-length-4 c = search needs
 
 returns-2 : tie.Need-returns-2
-unfolding wholeState
-returns-2 c = state-other _ _ _ (sym (c .if1 .left) ∙ c .before .both .ensures)
+returns-2 c = state-whole _ _ _ (c .before .before .before .before .before .before .before .before .state-fault .ensures) (c .before .before .before .before .before .before .before .if1 .left) (c .before .before .before .before .all-calls .ensures)
 
 pub take-list-spec : {M : Type 1} → statement M
 take-list-spec =
     tie.close
-    (tie.spec both-requires all-calls-requires same-length same-length-2 returns returns-2)
+    (tie.spec
+    state-fault-requires
+    same-length
+    same-length-2
+    returns
+    all-calls-requires
+    same-length-3
+    same-length-4
+    returns-2)
