@@ -61,7 +61,7 @@ pub enum Operation {
     IsTokenApproved = 27,
     /// View: whether an address is a token that answers.
     IsTokenCompliant = 28,
-    /// A transfer between accounts that the vault has no part in.
+    /// A transfer of a token by anyone but the vault.
     OutsideMove = 29,
     /// Freezes a token, or thaws it.
     Freeze = 30,

@@ -199,7 +199,7 @@ pub fn what_it_does(operation: Operation) -> &'static str {
         Operation::GetTokenAccountBalance => "the credit of an account",
         Operation::IsTokenApproved => "whether a token is approved",
         Operation::IsTokenCompliant => "whether there is such a token; no for address 0",
-        Operation::OutsideMove => "a transfer between accounts that the vault has no part in",
+        Operation::OutsideMove => "a transfer of a token by anyone but the vault",
         Operation::Freeze => "freezes a token, so that its transfers fail, or lets it move again",
     }
 }
