@@ -1,10 +1,21 @@
 #!/bin/sh
-# The program on inputs that its crate does not store. The program is made only where it is missing.
+# The programs on inputs that their crates do not store, token_vault_main and, on malformed input, token_vault_vectors; and the options of
+# the scripts.
 set -eu
-root=$(cd "$(dirname "$0")/.." && pwd)
-program=$root/target/bin/token_vault_main
-cd "$root"
-[ -f "$program" ] || rt check token_vault_main
+case ${1:-} in
+'') ;;
+--help | -h)
+    echo "compare/test.sh: runs the programs on inputs that their crates do not store, and tries the options of the scripts"
+    exit 0
+    ;;
+*)
+    echo "compare/test.sh: unknown option '$1'; it takes none" >&2
+    exit 2
+    ;;
+esac
+cd "$(dirname "$0")/.."
+compare/program.sh token_vault_main token_vault_vectors
+program=target/bin/token_vault_main
 
 zeros() { head -c "$1" /dev/zero; }
 bad() { printf '\001'; zeros 36831; }
@@ -17,3 +28,28 @@ of() { printf 'answer=%s value=0 events=0' "$1"; }
 { bad; balance; zeros 447; } | "$program" | prints "a bad image: 30 comes before 32" "$(of 30; echo; of 30)"
 { zeros 20000; sleep 0.1; zeros 16832; balance; sleep 0.1; printf '\030'; sleep 0.1; zeros 447; } | "$program" | prints "input that comes in parts" "$(of 1; echo; of 1)"
 echo "program: 2 inputs"
+compare/malformed.sh target/bin/token_vault_vectors
+
+# The scripts: what they do not know is refused with status 2 and a line, before anything runs.
+refuses() {
+    wanted=$1
+    shift
+    status=0
+    found=$(env "$@" 2>&1) || status=$?
+    case "$status:$found" in
+    2:"$wanted"*) ;;
+    *) echo "scripts: $*: status $status, '$found', wanted '$wanted'"; exit 1 ;;
+    esac
+}
+refuses "compare/run.sh: unknown option '--bnech'" compare/run.sh --bnech
+refuses "compare/run.sh: --calls wants a number, not 'many'" compare/run.sh --calls many
+refuses "compare/run.sh: --vectors wants a word behind it" compare/run.sh --vectors
+refuses "compare/run.sh: --bench does not take --seed" compare/run.sh --bench --seed 3
+refuses "compare/run.sh: --bench and --program do not go together" compare/run.sh --bench --program
+refuses "library.sh: VAULT_LIBRARY: $PWD/nowhere has no libtoken_vault_abi.a" VAULT_LIBRARY=nowhere bindings/library.sh
+refuses "story.sh: unknown option --fast" ./story.sh --fast
+if command -v cargo >/dev/null; then
+    refuses "compare/run.sh: the contract's Rust is not here: no lib.rs in $PWD/nowhere" VAULT_RUST_SRC=nowhere compare/run.sh
+fi
+compare/run.sh --help | grep -q -e --self-test || { echo "scripts: compare/run.sh --help has no usage"; exit 1; }
+echo "scripts: wrong options refused"
