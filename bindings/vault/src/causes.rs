@@ -252,3 +252,96 @@ fn outside(operation: Operation) -> Vec<Cause> {
         _ => vec![cause(Refusal::InvalidParam, "there is no such token")],
     }
 }
+
+/// The causes stand in the order of docs/FORMATS.md.
+#[cfg(test)]
+mod tests {
+    use super::own;
+    use token_vault::Operation;
+
+    const PAGE: &str = include_str!("../../../docs/FORMATS.md");
+
+    /// Checks that the page names, with their refusals.
+    const CHECKS: [(&str, &[u32]); 6] = [
+        ("paused", &[8]),
+        ("owner gate", &[1, 3, 22]),
+        ("shared gate", &[1, 3, 22]),
+        ("funding", &[10, 7, 6, 11]),
+        ("snapshot of the token", &[11]),
+        ("operator limit", &[6]),
+    ];
+
+    fn without_brackets(text: &str) -> String {
+        let mut depth = 0;
+        let mut outside = String::new();
+        for c in text.chars() {
+            depth += i32::from(c == '(');
+            if depth == 0 {
+                outside.push(c);
+            }
+            depth -= i32::from(c == ')');
+        }
+        outside
+    }
+
+    /// The refusals of a text in their order: checks by their names, and numbers before a name in code with a capital letter.
+    fn refusals(text: &str) -> Vec<u32> {
+        let text = without_brackets(text);
+        let mut found = Vec::new();
+        for (word, numbers) in CHECKS {
+            found.extend(text.match_indices(word).map(|(at, _)| (at, numbers.to_vec())));
+        }
+        for (at, _) in text.match_indices(" `") {
+            let digits = text[..at].rfind(|c: char| !c.is_ascii_digit()).map_or(0, |last| last + 1);
+            if text[at + 2..].starts_with(|c: char| c.is_ascii_uppercase()) {
+                found.push((digits, vec![text[digits..at].parse().expect("a number before a refusal's name")]));
+            }
+        }
+        found.sort();
+        found.into_iter().flat_map(|(_, numbers)| numbers).collect()
+    }
+
+    fn section(operation: Operation) -> &'static str {
+        let heading = format!("{} `{}`", operation.number(), operation.name());
+        let (_, from) = PAGE
+            .split("\n### ")
+            .find_map(|section| section.split_once('\n').filter(|(title, _)| title.contains(&heading)))
+            .unwrap_or_else(|| panic!("the page has no section {heading}"));
+        from.split_once("Refusals:").expect("refusals").1
+    }
+
+    /// What the page says of an operation that has a paragraph of refusals.
+    fn paragraph(operation: Operation) -> Vec<u32> {
+        refusals(section(operation).split("\n\n").next().expect("a paragraph"))
+    }
+
+    fn view(operation: Operation) -> Vec<u32> {
+        let start = format!("| {} `{}` | ", operation.number(), operation.name());
+        let row = PAGE.lines().find_map(|line| line.strip_prefix(&start)).expect("a row of the views");
+        refusals(row.split(" | ").next().expect("a cell"))
+    }
+
+    fn page(operation: Operation) -> Vec<u32> {
+        let deposit = || paragraph(Operation::Deposit);
+        match operation {
+            _ if operation.is_view() => view(operation),
+            // All of deposit, whose 4 and 5 the net amount cannot meet.
+            Operation::DepositWithFee => [paragraph(operation), deposit().into_iter().filter(|n| ![4, 5].contains(n)).collect()].concat(),
+            // As deposit up to and with funding, which the section names again.
+            Operation::DepositWithFailureReport => [&deposit()[..6], &refusals(section(operation))].concat(),
+            // One payout: there is an item, and its sum is its amount.
+            Operation::Withdraw => [&[8, 1, 3, 22], &paragraph(operation)[5..6], &paragraph(operation)[7..]].concat(),
+            Operation::Pause => paragraph(operation).into_iter().filter(|n| *n != 19).collect(),
+            Operation::Unpause => paragraph(operation).into_iter().filter(|n| *n != 18).collect(),
+            _ => paragraph(operation),
+        }
+    }
+
+    #[test]
+    fn causes_stand_in_the_order_of_the_page() {
+        for operation in Operation::ALL {
+            let told: Vec<u32> = own(operation).iter().map(|cause| cause.refusal.number()).collect();
+            assert_eq!(told, page(operation), "{operation}");
+        }
+    }
+}
