@@ -1,8 +1,9 @@
 //! The cases A to L of docs/FORMATS.md: the numbers are that page's, and both sides have to give them.
 use crate::compare::Pair;
+use crate::vectors::List;
 use model::bytes::{amount, put};
 use model::image::{credit_at, holding_at, token_at, LENGTH};
-use model::vault::{Answer, Call};
+use model::vault::{Answer, Call, Vault};
 
 const OWNER: u8 = 2;
 const OPERATOR: u8 = 3;
@@ -164,4 +165,62 @@ fn undone() {
     assert!(pair.vault.image != before.image && pair.vault.journal != before.journal, "case L");
     assert_eq!(call(&mut pair, &Call::Undo).number, 0, "case L");
     assert!(pair.vault.image == before.image && pair.vault.journal == before.journal, "case L");
+}
+
+/// The calls of each case but J, in the order of the page; each case is rolled back before the next.
+fn cases() -> Vec<Vec<Vec<u8>>> {
+    let paused = || record(18, OWNER);
+    let limit = || of(10, OWNER, 50);
+    let fee = |fee: i128| {
+        let mut r = of(3, OWNER, 10);
+        put_amount(&mut r, 48, fee);
+        r
+    };
+    let propose = || to(record(15, OWNER), OPERATOR);
+    let migrate = || to(record(21, OWNER), PAYEE);
+    let execute = |time| at(record(22, OWNER), time);
+    let mut next = of(2, OWNER, 10);
+    next[16] = 8;
+    let compliant = |token| {
+        let mut r = record(28, 0);
+        r[2] = token;
+        r
+    };
+    vec![
+        vec![payouts(OWNER, &[40, 60])],
+        vec![payouts(OWNER, &[41, 60])],
+        vec![limit(), payouts(OPERATOR, &[30, 20])],
+        vec![limit(), payouts(OPERATOR, &[30, 21])],
+        vec![to(of(5, OWNER, 5), 1)],
+        vec![of(2, OWNER, 900)],
+        vec![of(2, OWNER, 901)],
+        vec![fee(9)],
+        vec![fee(10), paused(), fee(10)],
+        vec![propose(), at(record(16, OPERATOR), 604_799)],
+        vec![propose(), at(record(16, OPERATOR), 604_800)],
+        vec![migrate(), paused(), execute(172_799), execute(172_800)],
+        vec![of(2, OWNER, 10), migrate(), execute(172_800), of(2, OWNER, 10), next],
+        vec![compliant(0), compliant(48), compliant(2)],
+        vec![of(11, 9, 99), of(11, 9, 100)],
+    ]
+}
+
+/// As vectors: case J has an image of its own.
+pub fn lists() -> Vec<List> {
+    let operation = |mut record: Vec<u8>| {
+        record[16] = record[16].max(7);
+        Call::Operation { record, events: vec![7; 896] }
+    };
+    let mut calls = Vec::new();
+    for case in cases() {
+        calls.push(Call::Begin);
+        calls.extend(case.into_iter().map(operation));
+        calls.push(Call::Rollback);
+    }
+    calls.extend([Call::Begin, operation(to(of(5, OWNER, 5), PAYEE)), Call::Undo]);
+    let credited = [of(7, OWNER, 1), of(2, OWNER, 1)].map(operation).into();
+    let mut image = start();
+    put_amount(&mut image, credit_at(TOKEN, OWNER as usize), i128::MAX);
+    let list = |image: Vec<u8>, calls: Vec<Call>| List { start: Vault { image, journal: vec![0; 24 * 41] }, calls };
+    vec![list(start(), calls), list(image, credited)]
 }

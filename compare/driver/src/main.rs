@@ -1,13 +1,19 @@
 //! Runs the vault beside the Rust contract and the model, from one seed, and stops at the first difference.
+mod bad_images;
+mod bad_journals;
 mod cases;
+mod change;
 mod compare;
+mod directed;
 mod ffi;
+mod fields;
 mod generate;
 mod mistake;
 mod program;
 mod random;
 mod scenario;
 mod situation;
+mod start_image;
 mod stream;
 mod sweep;
 mod table;

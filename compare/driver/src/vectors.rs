@@ -1,10 +1,10 @@
 //! Vectors: lists of calls that reach every pair and every situation, with the answers of the Rust side (docs/VECTORS.md).
 use crate::compare::{copy, operate};
-use crate::generate;
 use crate::random::Random;
 use crate::scenario::{list_operation, operation};
 use crate::situation::{Seen, Situations};
 use crate::table::Table;
+use crate::{bad_images, bad_journals, cases, directed, fields, generate};
 use model::image::LENGTH;
 use model::vault::{Answer, Call, Vault};
 use std::path::Path;
@@ -52,9 +52,9 @@ impl Reached {
     }
 }
 
-struct List {
-    start: Vault,
-    calls: Vec<Call>,
+pub struct List {
+    pub start: Vault,
+    pub calls: Vec<Call>,
 }
 
 /// Any call, more often one of an operation that is unfinished; its record is made for a good image.
@@ -233,7 +233,10 @@ fn line(answer: &Answer, vault: &Vault) -> String {
 /// Writes the calls to `stdin` and the answers to `stdout` in a folder.
 pub fn write(folder: &Path, seed: u64) -> std::io::Result<()> {
     let (mut bytes, mut lines, mut calls) = (Vec::new(), String::new(), 0);
-    let lists = lists(seed);
+    let mut lists = lists(seed);
+    for more in [directed::lists(), bad_images::lists(), bad_journals::lists(), fields::lists(), cases::lists()] {
+        lists.extend(more);
+    }
     for list in &lists {
         let mut vault = list.start.clone();
         for n in [vault.image.len(), vault.journal.len(), list.calls.len(), 0] {
