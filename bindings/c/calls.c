@@ -117,6 +117,19 @@ static void buffers_that_are_refused(void) {
     check("operation 31", call_without_journal(), TOKEN_VAULT_REFUSAL_INVALID_RECORD);
 }
 
+/* Event i, a payout of the owner, written by its fields: byte for byte the one that the library announced. */
+static void check_written(uint32_t i, uint8_t to, int64_t amount, int64_t balance) {
+    uint8_t written[TOKEN_VAULT_EVENT_LENGTH];
+    memset(written, 0xff, sizeof written);
+    token_vault_event_begin(written, TOKEN_VAULT_EVENT_WITHDRAWN);
+    token_vault_event_set_first(written, OWNER);
+    token_vault_event_set_second(written, to);
+    token_vault_event_set_yes(written, 0);
+    token_vault_event_set_number(written, 0, token_vault_amount_from_int64(amount));
+    token_vault_event_set_number(written, 1, token_vault_amount_from_int64(balance));
+    check("event written", memcmp(written, token_vault_event(events, i), sizeof written) == 0, 1);
+}
+
 /* Two payouts by items, of which the first is to address 10 and the second to address 63. */
 static void items(void) {
     begin_record(TOKEN_VAULT_OP_WITHDRAW_BATCH, 0);
@@ -126,6 +139,8 @@ static void items(void) {
     check("event count", count, 2);
     check("second event", token_vault_event_second(token_vault_event(events, 1)), 63);
     check("by operator", token_vault_event_yes(token_vault_event(events, 1)), 0);
+    check_written(0, 10, 25, 35);
+    check_written(1, 63, 35, 0);
     check_amount("first is paid", holding(10), 25);
     check_amount("second is paid", holding(63), 35);
     while (token_vault_record_add_item(record, 10, token_vault_amount_from_int64(1))) continue;

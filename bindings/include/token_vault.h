@@ -563,6 +563,29 @@ static inline struct token_vault_amount token_vault_event_number(const uint8_t *
     return token_vault_get_amount(event + TOKEN_VAULT_EVENT_AT_NUMBER0 + 16 * (size_t)i);
 }
 
+/* The same fields written, for an engine that announces the same events: an event is begun with its kind, all else zero. */
+static inline void token_vault_event_begin(uint8_t *event, uint8_t kind) {
+    size_t i;
+    for (i = 0; i < TOKEN_VAULT_EVENT_LENGTH; i++) event[i] = 0;
+    event[TOKEN_VAULT_EVENT_AT_KIND] = kind;
+}
+
+static inline void token_vault_event_set_first(uint8_t *event, uint8_t address) {
+    event[TOKEN_VAULT_EVENT_AT_FIRST] = address;
+}
+
+static inline void token_vault_event_set_second(uint8_t *event, uint8_t address) {
+    event[TOKEN_VAULT_EVENT_AT_SECOND] = address;
+}
+
+static inline void token_vault_event_set_yes(uint8_t *event, int yes) {
+    event[TOKEN_VAULT_EVENT_AT_YES] = yes ? 1 : 0;
+}
+
+static inline void token_vault_event_set_number(uint8_t *event, unsigned i, struct token_vault_amount number) {
+    token_vault_put_amount(event + TOKEN_VAULT_EVENT_AT_NUMBER0 + 16 * (size_t)i, number);
+}
+
 /* Where a token, 48 to 63, and an account's holding and credit of it stand in an image; the account is below 64. */
 static inline size_t token_vault_token_place(uint8_t token) {
     return TOKEN_VAULT_IMAGE_AT_TOKENS + TOKEN_VAULT_TOKEN_STRIDE * (size_t)(token - TOKEN_VAULT_FIRST_TOKEN);
