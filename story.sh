@@ -25,7 +25,6 @@ else
     trap 'rm -rf "$folder"' EXIT
 fi
 . "$root/bindings/paths.sh"
-"$root/bindings/library.sh"
 vault=$("$root/bindings/build.sh")
 cd "$folder"
 # The lines behind a command are its stored answer: only titles and commands are read here.
