@@ -1,9 +1,9 @@
 //! Vectors of images: for each rule of a good image one that breaks it alone, and good images at the edge of the rules.
 use crate::change::{accepted, MOST, OPERATOR};
 use crate::directed::call;
-use crate::start_image::{nothing_pending, plain, put_amount};
+use crate::start_image::{nothing_pending, plain};
 use crate::vectors::List;
-use model::bytes::put;
+use model::bytes::{put, put_amount};
 use model::image::{cap_at, credit_at, good, holding_at, snapshot_at, token_at, toll_at, LENGTH, TRACKED};
 use model::vault::{Call, Vault};
 

@@ -1,9 +1,9 @@
 //! Vectors of journals: for each rule of a good journal one that breaks it alone, and journals that are full.
 use crate::change::{accepted, Change, OPERATOR};
 use crate::directed::call;
-use crate::start_image::{plain, put_amount};
+use crate::start_image::plain;
 use crate::vectors::List;
-use model::bytes::put;
+use model::bytes::{put, put_amount};
 use model::image::{holding_at, CELL, CELLS};
 use model::journal::{good, ENTRY, MOST_CALLS};
 use model::vault::{Call, Vault};

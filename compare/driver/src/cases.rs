@@ -1,7 +1,7 @@
 //! The cases A to L of docs/FORMATS.md: the numbers are that page's, and both sides have to give them.
 use crate::compare::Pair;
 use crate::vectors::List;
-use model::bytes::{amount, put};
+use model::bytes::{amount, put, put_amount};
 use model::image::{credit_at, holding_at, token_at, LENGTH};
 use model::vault::{Answer, Call, Vault};
 
@@ -9,10 +9,6 @@ const OWNER: u8 = 2;
 const OPERATOR: u8 = 3;
 const PAYEE: u8 = 4;
 const TOKEN: usize = 48;
-
-fn put_amount(bytes: &mut [u8], at: usize, value: i128) {
-    put(bytes, at, &value.to_le_bytes());
-}
 
 /// Owner 2 with 2000 of its own, operator 3, token 48 approved and without toll, limit 1000, vault holding 100.
 fn start() -> Vec<u8> {

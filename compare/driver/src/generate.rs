@@ -1,6 +1,6 @@
 //! Random good images, records near the limits of an image, journals, and damaged bytes.
 use crate::random::Random;
-use model::bytes::{amount, get16, get32, get64, put};
+use model::bytes::{amount, get16, get32, get64, put, put_amount};
 use model::image::{cap_at, credit_at, flag, holding_at, kind, snapshot_at, token_at, toll_at, LENGTH};
 use model::record::{reads_items, EVENTS};
 
@@ -70,10 +70,6 @@ fn ledger(r: &mut Random) -> u32 {
         1 => u32::MAX - r.below(2) as u32,
         _ => r.next() as u32,
     }
-}
-
-fn put_amount(bytes: &mut [u8], at: usize, value: i128) {
-    put(bytes, at, &value.to_le_bytes());
 }
 
 /// Few addresses, so that roles meet in one.

@@ -1,6 +1,6 @@
 //! Start images of the vectors that ask for the order of refusals: a plain one, and others that differ from it in little.
 use crate::change::{MOST, MOST_DEPOSIT, OPERATOR, OWNER, PENDING, PROPOSER, STALE};
-use model::bytes::{get64, put};
+use model::bytes::{get64, put, put_amount};
 use model::image::{cap_at, credit_at, holding_at, snapshot_at, token_at, toll_at, LENGTH};
 
 const DEFAULT: usize = 48;
@@ -12,10 +12,6 @@ const CREDITED: usize = 61;
 const ABSENT: [usize; 4] = [51, 58, 62, 63];
 const UNAPPROVED: [usize; 3] = [47, 50, 58];
 const CAPS: [(usize, i128); 5] = [(51, 4), (55, 104), (56, MOST), (57, MOST), (60, 104)];
-
-pub fn put_amount(bytes: &mut [u8], at: usize, value: i128) {
-    put(bytes, at, &value.to_le_bytes());
-}
 
 fn token(image: &mut [u8], token: usize) {
     image[token_at(token)] = if FROZEN.contains(&token) { 2 } else { 1 };

@@ -23,6 +23,10 @@ pub fn put(bytes: &mut [u8], at: usize, value: &[u8]) {
     bytes[at..at + value.len()].copy_from_slice(value);
 }
 
+pub fn put_amount(bytes: &mut [u8], at: usize, value: i128) {
+    put(bytes, at, &value.to_le_bytes());
+}
+
 pub fn zero(bytes: &[u8]) -> bool {
     bytes.iter().fold(0, |all, b| all | b) == 0
 }
