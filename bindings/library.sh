@@ -1,10 +1,16 @@
 #!/bin/sh
-# Makes target/staticlib/libtoken_vault_abi.a anew unless it was made from the crates as they are now, by this kit; then prints nothing.
-# Where VAULT_LIBRARY names a folder, the archive there is taken as it is. What the prover prints goes to target/library.log.
+# library.sh [NAME]: makes target/staticlib/libNAME.a anew unless it was made from the crates as they are now, by this kit; then prints
+# nothing. NAME is token_vault_abi, or journal_bench for the benchmark. Where VAULT_LIBRARY names a folder, the libtoken_vault_abi.a there
+# is taken as it is. What the prover prints goes to target/library.log.
 set -eu
 root=$(cd "$(dirname "$0")/.." && pwd)
 . "$root/bindings/paths.sh"
-if [ -n "${VAULT_LIBRARY:-}" ]; then
+name=${1:-token_vault_abi}
+case $name in
+token_vault_abi | journal_bench) ;;
+*) echo "library.sh: unknown library '$name'; it makes token_vault_abi and journal_bench" >&2; exit 2 ;;
+esac
+if [ "$name" = token_vault_abi ] && [ -n "${VAULT_LIBRARY:-}" ]; then
     if [ ! -f "$VAULT_LIBRARY/libtoken_vault_abi.a" ]; then
         echo "library.sh: VAULT_LIBRARY: $VAULT_LIBRARY has no libtoken_vault_abi.a" >&2
         exit 2
@@ -17,7 +23,7 @@ if ! command -v rt >/dev/null; then
     echo "library.sh: rt is not here: it proves the library, see README.md, \"What it needs\"" >&2
     exit 2
 fi
-archive=target/staticlib/libtoken_vault_abi.a
+archive=target/staticlib/lib$name.a
 made_from=$archive.made_from
 
 # One line for the kit, the crates and the archive: another byte in any of them gives another line.
@@ -33,12 +39,14 @@ digest() {
 if [ -f "$archive" ] && [ -f "$made_from" ] && [ "$(digest)" = "$(cat "$made_from")" ]; then
     exit 0
 fi
-echo "Proving the library: about seven minutes on two cores the first time, less where crates were proved before." >&2
-echo "What the prover prints goes to target/library.log." >&2
+if [ "$name" = token_vault_abi ]; then
+    echo "Proving the library: about seven minutes on two cores the first time, less where crates were proved before." >&2
+    echo "What the prover prints goes to target/library.log." >&2
+fi
 mkdir -p target
-if ! rt staticlib token_vault_abi >target/library.log 2>&1; then
+if ! rt staticlib "$name" >target/library.log 2>&1; then
     cat target/library.log >&2
-    echo "library.sh: the library is not proved" >&2
+    echo "library.sh: $name is not proved" >&2
     exit 1
 fi
 digest >"$made_from"

@@ -17,6 +17,8 @@ compare/run.sh --self-test [--seed S] [--calls N]
     planted mistakes alone; each has to be found within N calls (400000)
 compare/run.sh --bench
     times the vault beside the contract's Rust (docs/PERFORMANCE.md)
+compare/run.sh --bench-cells [--seed S]
+    times the two ways to find the changed cells of a call, by words and by bytes (docs/PERFORMANCE.md)
 compare/run.sh --help
 
 VAULT_RUST_SRC    the folder of the contract's lib.rs, storage.rs and events.rs (where it is not beside the repository)
@@ -51,7 +53,7 @@ while [ $# -gt 0 ]; do
     shift
     case $option in
     --help | -h) usage; exit 0 ;;
-    --bench | --program | --self-test) once "$option"; continue ;;
+    --bench | --bench-cells | --program | --self-test) once "$option"; continue ;;
     --partial) partial=--partial; continue ;;
     --calls | --seed | --jobs | --scenario | --vectors) [ $# -gt 0 ] || wrong "$option wants a word behind it" ;;
     *) wrong "unknown option '$option'" ;;
@@ -75,7 +77,7 @@ takes() { # the options that a mode does not read are mistakes
 }
 case $mode in
 --bench) takes "" ;;
---vectors | --scenario) takes "seed" ;;
+--vectors | --scenario | --bench-cells) takes "seed" ;;
 --program) takes "seed partial" ;;
 --self-test) takes "seed calls" ;;
 esac
@@ -98,6 +100,7 @@ export CARGO_TARGET_DIR
 
 cd "$root"
 bindings/library.sh
+bindings/library.sh journal_bench
 if [ -z "${VAULT_PROGRAM:-}" ]; then
     compare/program.sh token_vault_main
 fi
@@ -109,6 +112,7 @@ bench=$CARGO_TARGET_DIR/release/bench
 : "${seed:=1}"
 case $mode in
 --bench) exec "$bench" ;;
+--bench-cells) exec "$bench" --cells --seed "$seed" ;;
 --vectors) exec "$driver" --vectors "$folder" --seed "$seed" ;;
 --scenario) exec "$driver" --scenario "$scenario" --seed "$seed" ;;
 --program) exec "$driver" --program --seed "$seed" $partial ;;

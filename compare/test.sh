@@ -45,8 +45,10 @@ refuses "compare/run.sh: unknown option '--bnech'" compare/run.sh --bnech
 refuses "compare/run.sh: --calls wants a number, not 'many'" compare/run.sh --calls many
 refuses "compare/run.sh: --vectors wants a word behind it" compare/run.sh --vectors
 refuses "compare/run.sh: --bench does not take --seed" compare/run.sh --bench --seed 3
+refuses "compare/run.sh: --bench-cells does not take --calls" compare/run.sh --bench-cells --calls 3
 refuses "compare/run.sh: --bench and --program do not go together" compare/run.sh --bench --program
 refuses "library.sh: VAULT_LIBRARY: $PWD/nowhere has no libtoken_vault_abi.a" VAULT_LIBRARY=nowhere bindings/library.sh
+refuses "library.sh: unknown library 'vault'" bindings/library.sh vault
 refuses "story.sh: unknown option --fast" ./story.sh --fast
 if command -v cargo >/dev/null; then
     refuses "compare/run.sh: the contract's Rust is not here: no lib.rs in $PWD/nowhere" VAULT_RUST_SRC=nowhere compare/run.sh

@@ -17,7 +17,7 @@
 #include <stddef.h>
 #include <stdint.h>
 
-#define TOKEN_VAULT_VERSION "0.1.0"
+#define TOKEN_VAULT_VERSION "0.1.1"
 
 /* Lengths in bytes, and how many there are at most. */
 #define TOKEN_VAULT_IMAGE_LENGTH 36832

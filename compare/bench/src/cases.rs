@@ -12,7 +12,7 @@ const PAYEE: u8 = 4;
 const TOKEN: u8 = 48;
 const MUCH: i128 = 1 << 100;
 /// Who pays and is paid in batches: the owner and fifteen others.
-const HOLDERS: std::ops::Range<u8> = OWNER..OWNER + 16;
+pub const HOLDERS: std::ops::Range<u8> = OWNER..OWNER + 16;
 const TIMELOCK: u64 = 172_800;
 
 /// Calls that are made over and over, and the calls before the first of them.
@@ -64,7 +64,7 @@ fn operation(record: Vec<u8>) -> Call {
     Call::Operation { record, events: vec![0; EVENTS_LENGTH] }
 }
 
-fn owner(operation: u8) -> Fields {
+pub fn owner(operation: u8) -> Fields {
     Fields { operation, caller: OWNER, token: TOKEN, sequence: 7, ..Fields::default() }
 }
 
@@ -76,26 +76,31 @@ fn withdraw() -> Call {
     operation(record(Fields { other: PAYEE, amount: 1, ..owner(5) }))
 }
 
-/// Sixteen items of 1, one for each holder, signed by all of them.
-fn batch(number: u8) -> Call {
+/// Sixteen items, signed by everyone.
+pub fn batch(number: u8, items: impl Iterator<Item = (u8, i128)>) -> Vec<u8> {
     let mut record = record(owner(number));
-    record[5] = HOLDERS.len() as u8;
+    record[5] = 16;
     put(&mut record, 24, &[0xff; 8]);
-    for (place, account) in (64..).step_by(24).zip(HOLDERS) {
+    for (place, (account, amount)) in (64..448).step_by(24).zip(items) {
         record[place] = account;
-        put(&mut record, place + 8, &1i128.to_le_bytes());
+        put(&mut record, place + 8, &amount.to_le_bytes());
     }
-    operation(record)
+    record
 }
 
-/// A deposit, and its migration: the sequence has to be another than that of the deposit before.
-fn migration(sequence: u32) -> [Call; 3] {
+/// Sixteen items of 1, one for each holder.
+fn batch_of_ones(number: u8) -> Call {
+    operation(batch(number, HOLDERS.map(|account| (account, 1))))
+}
+
+/// A deposit, and its migration initiated and executed: the sequence has to be another than that of the deposit before.
+pub fn migration(sequence: u32, other: u8, amount: i128) -> [Vec<u8>; 3] {
     [
-        Fields { sequence, amount: 1, ..owner(2) },
-        Fields { sequence, other: PAYEE, ..owner(21) },
+        Fields { sequence, amount, ..owner(2) },
+        Fields { sequence, other, ..owner(21) },
         Fields { sequence, timestamp: TIMELOCK, ..owner(22) },
     ]
-    .map(|fields| operation(record(fields)))
+    .map(record)
 }
 
 /// Operations 10 to 21 and 23, each accepted; the owner hands over to itself.
@@ -131,12 +136,12 @@ pub fn all() -> Vec<Case> {
     let alone = |name, calls| Case { name, journal: None, before: Vec::new(), calls };
     let journal = || Some(vec![0; JOURNAL_LENGTH_MAX]);
     let view = operation(record(owner(24)));
-    let migrations = migration(7).into_iter().chain(migration(8)).collect();
+    let migrations = [7, 8].into_iter().flat_map(|sequence| migration(sequence, PAYEE, 1)).map(operation).collect();
     vec![
         alone("deposit, accepted, no journal", vec![deposit(1)]),
         alone("deposit then withdraw, accepted, no journal", vec![deposit(1), withdraw()]),
-        alone("16 deposits in a batch, no journal", vec![batch(4)]),
-        alone("16 payouts in a batch, no journal", vec![batch(6)]),
+        alone("16 deposits in a batch, no journal", vec![batch_of_ones(4)]),
+        alone("16 payouts in a batch, no journal", vec![batch_of_ones(6)]),
         alone("deposit, migration initiated and executed", migrations),
         alone("settings: operations 10 to 21 and 23 in turn", settings()),
         alone("deposit, refused (4), no journal", vec![deposit(0)]),

@@ -1,5 +1,8 @@
-//! Calls a second of the vault beside the contract's Rust: the sides in turn, on the same calls, in one run.
+//! Calls a second of the vault beside the contract's Rust: the sides in turn, on the same calls, in one run. And how long the
+//! vault takes to find the changed cells of a call.
 mod cases;
+mod cells;
+mod forms;
 mod sides;
 
 use cases::Case;
@@ -7,8 +10,10 @@ use sides::{Answer, Side};
 use std::process::exit;
 use std::time::{Duration, Instant};
 
-const USAGE: &str = "bench [--quick]
-  --quick  compare the sides on every case and time nothing";
+const USAGE: &str = "bench [--quick | --cells] [--seed S]
+  --quick   compare the sides on every case, and both ways to find changed cells, and time nothing
+  --cells   time both ways to find the changed cells of a call
+  --seed S  of the calls and images of the changed cells (1)";
 const NAMES: [&str; 3] = ["the vault", "the Rust on a host kept loaded", "the Rust on a host loaded for each call"];
 /// A round of one side, and the rounds of a case: so long, and so many at least.
 const ROUND: Duration = Duration::from_millis(1);
@@ -17,37 +22,52 @@ const ROUNDS: usize = 10;
 
 fn main() {
     let words: Vec<String> = std::env::args().skip(1).collect();
-    let quick = match &words[..] {
-        [] => false,
-        [word] if word == "--quick" => true,
-        _ => {
-            eprintln!("{USAGE}");
-            exit(2)
-        }
+    let words: Vec<&str> = words.iter().map(String::as_str).collect();
+    let (mode, seed) = match words[..] {
+        [] => ("", 1),
+        [mode @ ("--quick" | "--cells")] => (mode, 1),
+        [mode @ ("--quick" | "--cells"), "--seed", seed] => (mode, seed.parse().unwrap_or_else(|_| usage())),
+        _ => usage(),
     };
-    if !quick {
-        head();
+    let (sparse, full) = (cases::sparse_image(), cases::full_image());
+    let images = [("sparse image", &sparse[..]), ("full image", &full[..])];
+    match mode {
+        "--quick" => {
+            let cases = run(images, false);
+            println!("bench: {cases} cases, the vault and the Rust agree in answers, events, images and journals");
+            cells::compare([&sparse, &full], seed);
+        }
+        "--cells" => cells::print(images, seed),
+        _ => {
+            head();
+            run(images, true);
+            println!("the best of all rounds of {} ms, the sides in turn, for {} ms a case", ROUND.as_millis(), CASE.as_millis());
+        }
     }
+}
+
+fn usage() -> ! {
+    eprintln!("{USAGE}");
+    exit(2)
+}
+
+/// Every case on both images: the sides have to agree, and are then timed. How many cases.
+fn run(images: [(&str, &[u8]); 2], timed: bool) -> usize {
     let mut cases = 0;
-    for (kind, image) in [("sparse image", cases::sparse_image()), ("full image", cases::full_image())] {
-        if !quick {
+    for (kind, image) in images {
+        if timed {
             println!("{kind}");
         }
         for case in cases::all() {
             cases += 1;
-            let mut sides = sides::all(&image, case.journal.as_deref());
+            let mut sides = sides::all(image, case.journal.as_deref());
             let answers = agree(&case, &mut sides);
-            if !quick {
-                let best = time(&case, &mut sides, &answers);
-                line(case.name, best);
+            if timed {
+                line(case.name, time(&case, &mut sides, &answers));
             }
         }
     }
-    if quick {
-        println!("bench: {cases} cases, the vault and the Rust agree in answers, events, images and journals");
-    } else {
-        println!("the best of all rounds of {} ms, the sides in turn, for {} ms a case", ROUND.as_millis(), CASE.as_millis());
-    }
+    cases
 }
 
 /// Makes the calls of a case three times at each side, which have to agree after every call; the answers of the last time.

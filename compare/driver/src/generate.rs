@@ -1,7 +1,7 @@
 //! Random good images, records near the limits of an image, journals, and damaged bytes.
-use crate::random::Random;
 use model::bytes::{amount, get16, get32, get64, put, put_amount};
 use model::image::{cap_at, credit_at, flag, holding_at, kind, snapshot_at, token_at, toll_at, LENGTH};
+use model::random::Random;
 use model::record::{reads_items, EVENTS};
 
 const MOST: i128 = i128::MAX;

@@ -10,7 +10,6 @@ mod fields;
 mod generate;
 mod mistake;
 mod program;
-mod random;
 mod scenario;
 mod situation;
 mod start_image;

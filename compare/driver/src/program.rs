@@ -1,7 +1,7 @@
 //! The program as a process, its output held to the lines of the Rust side.
-use crate::random::Random;
 use crate::stream::{Stream, Streams};
 use crate::wrong_program::ALL;
+use model::random::Random;
 use std::io::{Read, Write};
 use std::path::{Path, PathBuf};
 use std::process::{Child, ChildStdin, ChildStdout, Command, Stdio};

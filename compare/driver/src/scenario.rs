@@ -3,10 +3,10 @@ use crate::compare::{copy, Difference, Pair};
 use crate::ffi;
 use crate::generate;
 use crate::mistake::Mistake;
-use crate::random::Random;
 use crate::situation::{Seen, Situations};
 use crate::table::Table;
 use model::kept::{Book, KeptList};
+use model::random::Random;
 use model::vault::{Answer, Call, Vault};
 
 pub struct Run {

@@ -1,11 +1,11 @@
 //! Streams for the program: an image and then records as its input, with the lines that the Rust side gives for them.
 use crate::compare::operate;
 use crate::generate;
-use crate::random::Random;
 use crate::scenario::list_record;
 use crate::table::Table;
 use crate::vectors::answer_text;
 use model::image::{cap_at, credit_at, holding_at, snapshot_at, token_at};
+use model::random::Random;
 use model::vault::{Call, Vault};
 use model::{image, record};
 use std::fmt;

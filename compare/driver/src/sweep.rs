@@ -2,7 +2,7 @@
 use crate::compare::{Difference, Pair};
 use crate::ffi;
 use crate::generate;
-use crate::random::Random;
+use model::random::Random;
 use model::vault::{Call, Vault};
 use model::{image, journal};
 

@@ -1,11 +1,11 @@
 //! Vectors: lists of calls that reach every pair and every situation, with the answers of the Rust side (docs/VECTORS.md).
 use crate::compare::{copy, operate};
-use crate::random::Random;
 use crate::scenario::{list_operation, operation};
 use crate::situation::{Seen, Situations};
 use crate::table::Table;
 use crate::{bad_images, bad_journals, cases, directed, fields, generate};
 use model::image::LENGTH;
+use model::random::Random;
 use model::vault::{Answer, Call, Vault};
 use std::path::Path;
 

@@ -6,5 +6,6 @@ pub mod image;
 pub mod journal;
 pub mod kept;
 pub mod moves;
+pub mod random;
 pub mod record;
 pub mod vault;

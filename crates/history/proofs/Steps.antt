@@ -9,9 +9,11 @@ use lib.ListN.{length, replicate}
 use borrow.Author.Tests.{eqb-false}
 use Rattle.journal.specs.Calls.{Call, operation, begin, commit, rollback, undo, State, Step, Done}
 use Rattle.journal.specs.Journal.{Contents, bytesOf, contentsOf, room, journalAfter}
+use Rattle.journal.specs.Changed.{CellsEntered}
 use Rattle.journal.specs.Step.{vault, reply, begun, committed, rolledBack, undone, lastUndone, outcome, operated, step}
 use Rattle.journal.proofs.Written.{sound}
 use Rattle.journal.proofs.States.{fresh, fresh-good, fresh-contents, zeros-good, zeros-contents, begun-open, begun-closed, committed-open, committed-closed, rolled-closed, undone-open, undone-closed, begun-rolled, entered-good, entered-undone, entered-rolled}
+use Rattle.journal.proofs.Exact.{cells-entered}
 use Rattle.journal.proofs.Dispatch.{step-operation, step-begin, step-commit, step-rollback, step-undo}
 use Rattle.journal.proofs.Refusals.{view-keeps, step-refused}
 use Rattle.history.specs.Owed.{GoodState, OpLaws}
@@ -164,6 +166,17 @@ module _ (cells : ℕ) (goodImage : List ℕ → Bool) (op : List ℕ → List �
       go : (t : Bool) → view r ≡ t → G (St s (operation r e) .state)
       go true v = rw (looked s r e g o v) g
       go false v = from (does s r e g o v)
+
+  -- the cells that it enters in an open transaction
+  pub enters : (s : State) (r e : List ℕ) → G s → ok St s (operation r e) → view r ≡ false → contentsOf (s .journal) .opened ≡ true
+      → CellsEntered cells s (St s (operation r e) .state)
+  enters s r e g o v p = go (does s r e g o v)
+    where
+      go : Did cells s (op (s .image) r e) (St s (operation r e)) → CellsEntered cells s (St s (operation r e) .state)
+      go (outside c z x) = absurd (let w : _≡_ {A = ℕ} 0 1 = cc in omega arith)
+      go (inside c z f x) =
+          rw x
+          (cells-entered cells (s .image) (op (s .image) r e .image) (s .journal) (g .1) (H .as-long (s .image) (g .0)) (long-after s r e g z) f)
 
   undone-op : (s : State) (r e : List ℕ) → G s → ok St s (operation r e) → view r ≡ false
       → ok St (St s (operation r e) .state) undo → St (St s (operation r e) .state) undo .state ≡ s

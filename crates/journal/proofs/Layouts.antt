@@ -10,7 +10,7 @@ use Rattle.fields.specs.Bytes.{put}
 use Rattle.journal.specs.Journal.{Entry, headBytes, entryBytes, entriesBytes, layout, ordered}
 use Rattle.journal.proofs.Written.{order-out, length-entries}
 
-entries-append : (es fs : List Entry) → entriesBytes (es ++ fs) ≡ entriesBytes es ++ entriesBytes fs
+pub entries-append : (es fs : List Entry) → entriesBytes (es ++ fs) ≡ entriesBytes es ++ entriesBytes fs
 unfolding entriesBytes
 entries-append [] fs = refl
 entries-append (e ∷ es) fs = rw (entries-append es fs) (sym (append-assoc (entryBytes e) (entriesBytes es) (entriesBytes fs)))

@@ -8,4 +8,6 @@ pub mod Scanned
 pub mod Backwards
 pub mod Layouts
 pub mod Outcomes
+pub mod Stretches
+pub mod Exact
 pub mod Entering

@@ -6,10 +6,11 @@ ghost use mathlib.Core.List.{List, [], _++_};
 ghost use Prim.Native.Nat.{ℕ, suc, _+_, _-_, _*_, _<_, _≤_};
 ghost use lib.ListN.{length, take, drop, replicate};
 ghost use Rattle.fields.specs.Bytes.{le, put};
+ghost use Rattle.fields.specs.Same.{sameBytes};
 ghost use Rattle.journal.specs.Journal.{contentsOf, goodJournal, fits, entryBytes, restore};
 ghost use Rattle.journal.specs.Scan.{inOrder, scanHead, scanEntries};
 ghost use Rattle.journal.specs.Step.{vault, reply, begun, committed, rolledBack, undone};
-ghost use Rattle.journal.specs.Parts.{GoodJournal, GoodOver, GoodOpen, Enters, Earlier, Counted};
+ghost use Rattle.journal.specs.Parts.{GoodJournal, GoodOver, GoodOpen, Enters, Earlier, Counted, Cells, placeAt, Found, Finds};
 
 fn wide(x: u16) -> usize
     ensures { λ r. ⌜ (r ≡ x) × (r < 65536) ⌝ }
@@ -215,7 +216,7 @@ pub fn undo(image: &mut [u8], journal: &mut [u8], cells: usize) -> u8
     0
 }
 
-fn put_entry(part: &mut [u8], cell: usize, call: usize, old: &[u8])
+pub fn put_entry(part: &mut [u8], cell: usize, call: usize, old: &[u8])
     requires { ⌜ (length (now part) ≡ 24) × (length (now old) ≡ 16) × (cell < 65536) × (call < 65536) ⌝ }
     ensures { λ _. ⌜ now (part .exit) ≡ entryBytes (record { cell = cell; call = call; old = now (old .entry) }) ⌝ }
 {
@@ -228,8 +229,103 @@ fn put_entry(part: &mut [u8], cell: usize, call: usize, old: &[u8])
     fields::copy_bytes(&entry, part);
 }
 
-// Writes an entry for each changed cell behind those that are there, as far as there are places, and counts them all.
-fn enter_cells(
+// The byte at which entry n stands, or the end where there is no place for it.
+fn place_at(n: usize, len: usize) -> usize
+    requires { ⌜ n ≤ 65536 ⌝ }
+    ensures { λ r. ⌜ (r ≡ placeAt n len) × (r ≤ len) ⌝ }
+{
+    let at = 24 * n;
+    if at <= len { at } else { len }
+}
+
+// Whether two images have the same two words in the cell at byte `at`.
+fn same_cell(old: &[u8], new: &[u8], at: usize) -> bool
+    requires { ⌜ (at + 16 ≤ length (now old)) × (at + 16 ≤ length (now new)) ⌝ }
+    ensures { λ r. ⌜ r ≡ sameBytes (take 16 (drop at (now (old .entry)))) (take 16 (drop at (now (new .entry)))) ⌝ }
+{
+    let next = at + 8;
+    let low = fields::get64(old, at) == fields::get64(new, at);
+    let high = fields::get64(old, next) == fields::get64(new, next);
+    both(low, high)
+}
+
+// Writes an entry for each cell that changed, as far as there are places, and counts them all. The first cell has the number `first`.
+fn enter_stretch(
+    old: &[u8],
+    new: &[u8],
+    places: &mut [u8],
+    cells: usize,
+    first: usize,
+    call: usize,
+) -> usize
+    requires { ⌜ Cells cells first call (now old) (now new) ⌝ }
+    ensures { λ r. ⌜ Found cells first call (now (old .entry)) (now (new .entry)) (now (places .entry)) r (now (places .exit)) ⌝ }
+{
+    let mut n = 0;
+    let mut k = 0;
+    while k < cells {
+        let cell = k;
+        k += 1;
+        let lo = 16 * cell;
+        let hi = lo + 16;
+        if !same_cell(old, new, lo) {
+            let at = 24 * n;
+            let end = at + 24;
+            n += 1;
+            if end <= places.len() {
+                put_entry(&mut places[at..end], first + cell, call, &old[lo..hi]);
+            }
+        }
+    }
+    n
+}
+
+// So many cells are passed over at once where they are all the same.
+const STRETCH: usize = 16;
+
+// The bytes of so many cells.
+const STRETCH_BYTES: usize = 256;
+
+// `enter_stretch` of a whole image, stretch by stretch; one that is the same in both images is passed over.
+pub fn enter_cells(old: &[u8], new: &[u8], places: &mut [u8], cells: usize, call: usize) -> usize
+    requires { ⌜ Cells cells 0 call (now old) (now new) ⌝ }
+    ensures { λ r. ⌜ Finds cells call (now (old .entry)) (now (new .entry)) (now (places .entry)) r (now (places .exit)) ⌝ }
+{
+    let mut n = 0;
+    let mut k = 0;
+    while k + STRETCH <= cells {
+        let first = k;
+        k += STRETCH;
+        let from = 16 * first;
+        let to = from + STRETCH_BYTES;
+        if !fields::same_words(&old[from..to], &new[from..to]) {
+            let at = place_at(n, places.len());
+            let more = enter_stretch(
+                &old[from..to],
+                &new[from..to],
+                &mut places[at..],
+                STRETCH,
+                first,
+                call,
+            );
+            n += more;
+        }
+    }
+    let from = 16 * k;
+    let at = place_at(n, places.len());
+    let more = enter_stretch(
+        &old[from..],
+        &new[from..],
+        &mut places[at..],
+        cells - k,
+        k,
+        call,
+    );
+    n + more
+}
+
+// The changed cells behind the entries that are there: written as far as there are places, and all entries counted.
+fn enter_behind(
     old: &[u8],
     new: &[u8],
     journal: &mut [u8],
@@ -241,23 +337,9 @@ fn enter_cells(
     requires { ⌜ (call ≡ suc (contentsOf (now journal) .calls)) × (count ≡ length (contentsOf (now journal) .entries)) ⌝ }
     ensures { λ r. ⌜ Counted cells (now (old .entry)) (now (new .entry)) (now (journal .entry)) r (now (journal .exit)) ⌝ }
 {
-    let mut n = count;
-    let mut k = 0;
-    while k < cells {
-        let cell = k;
-        k += 1;
-        let lo = 16 * cell;
-        let hi = lo + 16;
-        if !fields::same_bytes(&old[lo..hi], &new[lo..hi]) {
-            n += 1;
-            let at = 24 * n;
-            let end = at + 24;
-            if end <= journal.len() {
-                put_entry(&mut journal[at..end], cell, call, &old[lo..hi]);
-            }
-        }
-    }
-    n
+    let at = 24 * (count + 1);
+    let more = enter_cells(old, new, &mut journal[at..], cells, call);
+    count + more
 }
 
 // Enters an operation that changed the image from `old` to `new`; false is 34, and the journal stays as it is.
@@ -270,7 +352,7 @@ pub fn enter(old: &[u8], new: &[u8], journal: &mut [u8], cells: usize) -> bool
         return false;
     }
     let count = number_at(journal, 4);
-    let all = enter_cells(old, new, journal, cells, calls + 1, count);
+    let all = enter_behind(old, new, journal, cells, calls + 1, count);
     let len = journal.len();
     if 24 * (all + 1) > len {
         clear_entries(journal, count, len / 24 - 1);

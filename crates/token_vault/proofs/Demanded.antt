@@ -1,4 +1,4 @@
--- Demand 3 holds.
+-- Demand 3 holds; and which cells a call enters.
 use mathlib.Core.Path.{_≡_, sym, ap, _∙_}
 use mathlib.Core.Bool.{true, false}
 use mathlib.Core.List.{List}
@@ -10,6 +10,8 @@ use Rattle.book.specs.Entries.{opens}
 use Rattle.book.specs.Flows.{deposited, movedIn, paidOut, migrated, flow, migrationTakes}
 use Rattle.book.specs.Flowed.{flows, flow-migration}
 use Rattle.journal.specs.Calls.{Call, operation, State, Answer}
+use Rattle.journal.specs.Journal.{contentsOf}
+use Rattle.journal.specs.Changed.{CellsEntered}
 use Rattle.journal.specs.Step.{Opening}
 use Rattle.storage.specs.Facts.{facts, test}
 use Rattle.storage.specs.Writes.{default-range}
@@ -22,8 +24,10 @@ use Rattle.image.specs.Good.{goodImage}
 use Rattle.history.specs.Kept.{run, kept, total, SameAsKept}
 use Rattle.history.specs.Owed.{GoodState, OpLaws, SumOps}
 use Rattle.history.proofs.Theorem.{accepted-good, of-step, same-as-kept, sums-kept}
+use Rattle.history.proofs.Steps.{enters}
 use Rattle.history.proofs.Totals.{total-plus, total-minus}
 use Rattle.token_vault.specs.Demand.{enter, keptSum, Migrates, Demand3}
+use Rattle.token_vault.specs.Cells.{EntersCells}
 use Rattle.token_vault.specs.Vault.{outcomeOf, op, view, vaultStep}
 use Rattle.token_vault.proofs.Owed.{accepted-call, outcome-good, outcome-booked}
 
@@ -125,3 +129,12 @@ every s o cs = same-as-kept cells goodImage op view op-laws s o enter BookIs (re
 
 pub demanded : Demand3
 demanded = record { every = every; balance = λ s o cs. record { balanced = λ t low high. balanced t low high s cs o }; migration = migrates }
+
+-- ---- the cells that a call enters
+call-enters : (s : State) (r e : List ℕ) → view r ≡ false → contentsOf (s .journal) .opened ≡ true → vaultStep s (operation r e) .answer .number ≡ 0
+    → CellsEntered cells s (vaultStep s (operation r e) .state)
+unfolding vaultStep
+call-enters s r e v o z = enters cells goodImage op view op-laws s r e (accepted-good cells goodImage op view op-laws s (operation r e) z) z v o
+
+pub entered-cells : EntersCells
+entered-cells = record { every = call-enters }

@@ -1,4 +1,5 @@
--- The step of this vault, the contracts of the public calls, and demand 3.
+-- The step of this vault, the contracts of the public calls, demands 1 and 3, and which cells a call enters.
 pub mod Vault
 pub mod Public
 pub mod Demand
+pub mod Cells

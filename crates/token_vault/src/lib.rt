@@ -18,6 +18,7 @@ ghost use Rattle.journal.specs.Journal.{goodJournal};
 ghost use Rattle.journal.specs.Step.{vault, operated};
 ghost use Rattle.token_vault.specs.Vault.{outcomeOf, callNumber, op, vaultStep};
 ghost use Rattle.token_vault.specs.Demand.{Demand1, Demand3};
+ghost use Rattle.token_vault.specs.Cells.{EntersCells};
 ghost use Rattle.token_vault.specs.Public.{CallIs, CallAlone, closedJournal, JournalIs, Replies, Answers, Tries, stateNumber, keptNumber, keptJournal, Keeps};
 
 fn operate(img: &mut [u8], rec: &[u8], events: &mut [u8]) -> Answer
@@ -284,4 +285,11 @@ pub fn demand_three() -> u32
     ensures { λ r. ⌜ Demand3 ⌝ }
 {
     3
+}
+
+// Which cells a call of this vault enters, over the step that the contracts above cite.
+pub fn entered_cells() -> u32
+    ensures { λ r. ⌜ EntersCells ⌝ }
+{
+    2302
 }

@@ -30,11 +30,11 @@ number-at-requires-2 c κs =
     let l = good-long (start .args .cells) (start .args .journal .now) (start .pre .good) in
     omega arith
 
-add-enter-cells : tie.Need-add-enter-cells
-add-enter-cells c = search needs
+add-enter-behind : tie.Need-add-enter-behind
+add-enter-behind c = search needs
 
-enter-cells-requires : tie.Need-enter-cells-requires
-enter-cells-requires c κs =
+enter-behind-requires : tie.Need-enter-behind-requires
+enter-behind-requires c κs =
     let start = c .before .before .before .before .before .before .before .before .before in
     let n = calls-at (start .args .journal .now) in
     let e = c .before .before .before .before .number-at .ensures .0 in
@@ -43,7 +43,7 @@ enter-cells-requires c κs =
 add-if2 : tie.Need-add-if2
 add-if2 c =
     let start = c .before .before .before .before .before .before .before .before .before .before .before .before in
-    let f = c .before .before .enter-cells .ensures .few in
+    let f = c .before .before .enter-behind .ensures .few in
     let n = good-few (start .args .cells) (start .args .journal .now) (start .pre .good) in
     let m = start .pre .numbered in
     omega arith
@@ -51,7 +51,7 @@ add-if2 c =
 mul-if2 : tie.Need-mul-if2
 mul-if2 c =
     let start = c .before .before .before .before .before .before .before .before .before .before .before .before in
-    let f = c .before .before .enter-cells .ensures .few in
+    let f = c .before .before .enter-behind .ensures .few in
     let n = good-few (start .args .cells) (start .args .journal .now) (start .pre .good) in
     let m = start .pre .numbered in
     omega arith
@@ -60,7 +60,7 @@ sub-clear-entries : tie.Need-sub-clear-entries
 sub-clear-entries c =
     let start = c .before .before .before .before .before .before .before .before .before .before .before .before .before .before in
     let l = good-long (start .args .cells) (start .args .journal .now) (start .pre .good) in
-    let k = c .before .before .before .before .enter-cells .kept .1 .1 .0 in
+    let k = c .before .before .before .before .enter-behind .kept .1 .1 .0 in
     omega arith
 
 clear-entries-requires : tie.Need-clear-entries-requires
@@ -70,7 +70,7 @@ clear-entries-requires c κs =
     let r = good-room (start .args .cells) (start .args .journal .now) (start .pre .good) in
     let n = count-at (start .args .journal .now) in
     let e = c .before .before .before .before .before .before .number-at2 .ensures .0 in
-    let k = c .before .before .before .before .enter-cells .kept .1 .1 .0 in
+    let k = c .before .before .before .before .enter-behind .kept .1 .1 .0 in
     (omega arith, omega arith)
 
 same-length-2 : tie.Need-same-length-2
@@ -81,9 +81,9 @@ returns-2 c =
     let start = c .before .before .before .before .before .before .before .before .before .before .before .before .before .before .before .before .before in
     let a = start .args in
     let n : c .before .before .before .before .before .before .before .before .before .number-at2 .result ≡ length (contentsOf (a .journal .now) .entries) = c .before .before .before .before .before .before .before .before .before .number-at2 .ensures .0 ∙ sym (count-at (a .journal .now)) in
-    let k = c .before .before .before .before .before .before .before .enter-cells .kept .1 .1 .0 in
+    let k = c .before .before .before .before .before .before .before .enter-behind .kept .1 .1 .0 in
     rw (c .before .before .clear-entries .ensures, n, k)
-    (enter-full (a .cells) (a .old .now) (a .new .now) (a .journal .now) (start .pre) (c .before .before .before .before .before .before .before .enter-cells .result) (c .before .before .before .before .before .before .before .enter-cells .last .1 .1 .0) (c .before .before .before .before .before .before .before .enter-cells .ensures) (omega arith))
+    (enter-full (a .cells) (a .old .now) (a .new .now) (a .journal .now) (start .pre) (c .before .before .before .before .before .before .before .enter-behind .result) (c .before .before .before .before .before .before .before .enter-behind .last .1 .1 .0) (c .before .before .before .before .before .before .before .enter-behind .ensures) (omega arith))
 
 add-write-counts : tie.Need-add-write-counts
 add-write-counts c = search needs
@@ -93,7 +93,7 @@ write-counts-requires c κs =
     let start = c .before .before .before .before .before .before .before .before .before .before .before .before .before .before in
     let l = good-long (start .args .cells) (start .args .journal .now) (start .pre .good) in
     let s = good-short (start .args .cells) (start .args .journal .now) (start .pre .good) in
-    let k = c .before .before .before .before .enter-cells .kept .1 .1 .0 in
+    let k = c .before .before .before .before .enter-behind .kept .1 .1 .0 in
     (omega arith, omega arith, omega arith)
 
 same-length-3 : tie.Need-same-length-3
@@ -103,9 +103,9 @@ returns-3 : tie.Need-returns-3
 returns-3 c =
     let start = c .before .before .before .before .before .before .before .before .before .before .before .before .before .before .before .before .before in
     let a = start .args in
-    let k = c .before .before .before .before .before .before .before .enter-cells .kept .1 .1 .0 in
+    let k = c .before .before .before .before .before .before .before .enter-behind .kept .1 .1 .0 in
     rw (c .before .before .write-counts .ensures)
-    (enter-done (a .cells) (a .old .now) (a .new .now) (a .journal .now) (start .pre) (c .before .before .before .before .before .before .before .enter-cells .result) (c .before .before .before .before .before .before .before .before .before .before .before .before .number-at .result) (c .before .before .before .before .before .before .before .enter-cells .last .1 .1 .0) (c .before .before .before .before .before .before .before .enter-cells .ensures) (omega arith)
+    (enter-done (a .cells) (a .old .now) (a .new .now) (a .journal .now) (start .pre) (c .before .before .before .before .before .before .before .enter-behind .result) (c .before .before .before .before .before .before .before .before .before .before .before .before .number-at .result) (c .before .before .before .before .before .before .before .enter-behind .last .1 .1 .0) (c .before .before .before .before .before .before .before .enter-behind .ensures) (omega arith)
     (c .before .before .before .before .before .before .before .before .before .before .before .before .number-at .ensures .0 ∙ sym (calls-at (a .journal .now))) (c .before .before .before .before .before .before .before .before .before .before .before .if1 .left))
 
 pub enter-spec : {M : Type 1} → statement M
@@ -116,8 +116,8 @@ enter-spec =
     same-length
     returns
     number-at-requires-2
-    add-enter-cells
-    enter-cells-requires
+    add-enter-behind
+    enter-behind-requires
     add-if2
     mul-if2
     sub-clear-entries

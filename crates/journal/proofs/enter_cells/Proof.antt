@@ -1,185 +1,220 @@
--- `journal::enter_cells`: after k cells the entries of the first k are counted, and written as far as there are places.
+-- `journal::enter_cells`: after k cells, whole stretches of them, the changed ones are counted, and their entries written as far as there are places.
 use mathlib.Core.Path.{_≡_, refl, sym, ap, _∙_}
 use Prim.Native.Nat.{_≤_, _+_, _*_, _-_}
 use native.Mathlib.Omega.{arith}
 use lib.ListN.{length-take, length-drop, length}
 use borrow.Rule.Slice.PartMut.{same-len-mid}
-use borrow.Author.Tests.{not-true, not-false}
+use borrow.Author.Tests.{not-false}
 use borrow.Author.Needs.{needs}
-use Rattle.fields.specs.Same.{sameBytes}
-use Rattle.journal.proofs.Written.{good-calls, good-few}
-use Rattle.journal.proofs.Entering.{cellOf, count-changed, soFar, holding, none-entered, all-entered, starts, more-same, turn-full, turn-writes}
+use Rattle.journal.specs.Journal.{changed}
+use Rattle.journal.specs.Parts.{over}
+use Rattle.journal.proofs.Exact.{exact}
+use Rattle.journal.proofs.Stretches.{none-changed, over-none, changed-few, found-few, stretch-same, stretch-found}
 use Rattle.journal.proofs.enter_cells.Statement.{statement}
 use Rattle.journal.proofs.enter_cells.Tie as tie
 
 abbrev Inv-loop : tie.InvT-loop
-Inv-loop old new journal₀ cells call count n₀ k₀ journal n k =
-    (k ≤ cells) × (n ≤ count + k) × (n ≡ length (soFar old new journal₀ k)) × (length journal ≡ length journal₀) × (journal ≡ holding journal₀ (soFar old new journal₀ k))
+Inv-loop old new places₀ cells call n₀ k₀ places n k =
+    (k ≤ cells) × (n ≤ k) × (n ≡ length (changed call k 0 old new)) × (length places ≡ length places₀) × (places ≡ over places₀ (changed call k 0 old new))
 
 abbrev μ-loop : tie.MeasureT-loop
-μ-loop old new journal₀ cells call count n₀ k₀ journal n k = cells - k
-
--- the two cells that a turn compares
-same-is : (c : tie.After-same-bytes Inv-loop μ-loop)
-    → sameBytes (cellOf (c .before .before .before .before .loop .k) (c .before .before .before .before .before .before .before .before .args .old .now)) (cellOf (c .before .before .before .before .loop .k) (c .before .before .before .before .before .before .before .before .args .new .now)) ≡ c .same-bytes .result
-same-is c =
-    let k = c .before .before .before .before .loop .k in
-    let m : 16 * k + 16 - 16 * k ≡ 16 = omega arith in
-    sym (rw m at (c .same-bytes .ensures))
+μ-loop old new places₀ cells call n₀ k₀ places n k = cells - k
 
 loop-holds : tie.Need-loop-holds Inv-loop μ-loop
 loop-holds c =
     let a = c .before .before .before .args in
-    let g = c .before .before .before .pre .0 .good in
-    (omega arith, omega arith, c .before .before .before .pre .1 .1 ∙ ap length (sym (none-entered (a .cells) (a .old .now) (a .new .now) (a .journal .now) g)), refl, starts (a .cells) (a .old .now) (a .new .now) (a .journal .now) g)
+    let e = none-changed (a .call) 0 (a .old .now) (a .new .now) in
+    (omega arith, omega arith, ap length (sym e), refl, sym (over-none (a .places .now)) ∙ ap (over (a .places .now)) (sym e))
+
+add-loop : tie.Need-add-loop Inv-loop μ-loop
+add-loop c = let p = c .before .before .before .before .pre .numbered in omega arith
 
 add-k : tie.Need-add-k Inv-loop μ-loop
 add-k c = search needs
 
-mul-lo : tie.Need-mul-lo Inv-loop μ-loop
-mul-lo c = search needs
+mul-from : tie.Need-mul-from Inv-loop μ-loop
+mul-from c = let p = c .before .before .before .before .before .pre .numbered in omega arith
 
-add-hi : tie.Need-add-hi Inv-loop μ-loop
-add-hi c = search needs
+add-to : tie.Need-add-to Inv-loop μ-loop
+add-to c = let p = c .before .before .before .before .before .pre .numbered in omega arith
 
-sub-same-bytes : tie.Need-sub-same-bytes Inv-loop μ-loop
-sub-same-bytes c = search needs
+sub-same-words : tie.Need-sub-same-words Inv-loop μ-loop
+sub-same-words c = search needs
 
-part-same-bytes-start : tie.Need-part-same-bytes-start Inv-loop μ-loop
-part-same-bytes-start c = search needs
+part-same-words-start : tie.Need-part-same-words-start Inv-loop μ-loop
+part-same-words-start c = search needs
 
-part-same-bytes-end : tie.Need-part-same-bytes-end Inv-loop μ-loop
-part-same-bytes-end c = search needs
+part-same-words-end : tie.Need-part-same-words-end Inv-loop μ-loop
+part-same-words-end c = let o = c .before .before .before .before .before .pre .long-old in omega arith
 
-sub-same-bytes-2 : tie.Need-sub-same-bytes-2 Inv-loop μ-loop
-sub-same-bytes-2 c = search needs
+sub-same-words-2 : tie.Need-sub-same-words-2 Inv-loop μ-loop
+sub-same-words-2 c = search needs
 
-part-same-bytes-start-2 : tie.Need-part-same-bytes-start-2 Inv-loop μ-loop
-part-same-bytes-start-2 c = search needs
+part-same-words-start-2 : tie.Need-part-same-words-start-2 Inv-loop μ-loop
+part-same-words-start-2 c = search needs
 
-part-same-bytes-end-2 : tie.Need-part-same-bytes-end-2 Inv-loop μ-loop
-part-same-bytes-end-2 c = search needs
+part-same-words-end-2 : tie.Need-part-same-words-end-2 Inv-loop μ-loop
+part-same-words-end-2 c = let o = c .before .before .before .before .before .before .pre .long-new in omega arith
 
-same-bytes-requires : tie.Need-same-bytes-requires Inv-loop μ-loop
-same-bytes-requires c κs = search needs
+same-words-requires : tie.Need-same-words-requires Inv-loop μ-loop
+same-words-requires c κs =
+    let o = c .before .before .before .before .before .before .before .pre .long-old in
+    let n = c .before .before .before .before .before .before .before .pre .long-new in
+    (simp (length-take, length-drop) (omega arith), simp (length-take, length-drop) (omega arith))
+
+place-at-requires : tie.Need-place-at-requires Inv-loop μ-loop
+place-at-requires c κs = let p = c .before .before .before .before .before .before .before .before .before .pre .numbered in let i = c .before .before .before .before .before .loop .inv .1 in omega arith
+
+sub-enter-stretch : tie.Need-sub-enter-stretch Inv-loop μ-loop
+sub-enter-stretch c = search needs
+
+part-enter-stretch-start : tie.Need-part-enter-stretch-start Inv-loop μ-loop
+part-enter-stretch-start c = search needs
+
+part-enter-stretch-end : tie.Need-part-enter-stretch-end Inv-loop μ-loop
+part-enter-stretch-end c = let o = c .before .before .before .before .before .before .before .before .before .before .pre .long-old in omega arith
+
+sub-enter-stretch-2 : tie.Need-sub-enter-stretch-2 Inv-loop μ-loop
+sub-enter-stretch-2 c = search needs
+
+part-enter-stretch-start-2 : tie.Need-part-enter-stretch-start-2 Inv-loop μ-loop
+part-enter-stretch-start-2 c = search needs
+
+part-enter-stretch-end-2 : tie.Need-part-enter-stretch-end-2 Inv-loop μ-loop
+part-enter-stretch-end-2 c = let o = c .before .before .before .before .before .before .before .before .before .before .before .pre .long-new in omega arith
+
+sub-enter-stretch-3 : tie.Need-sub-enter-stretch-3 Inv-loop μ-loop
+sub-enter-stretch-3 c = search needs
+
+part-enter-stretch-start-3 : tie.Need-part-enter-stretch-start-3 Inv-loop μ-loop
+part-enter-stretch-start-3 c = search needs
+
+part-enter-stretch-end-3 : tie.Need-part-enter-stretch-end-3 Inv-loop μ-loop
+part-enter-stretch-end-3 c = search needs
+
+enter-stretch-requires : tie.Need-enter-stretch-requires Inv-loop μ-loop
+enter-stretch-requires c κs =
+    let p = c .before .before .before .before .before .before .before .before .before .before .before .before .before .pre in
+    let o = p .long-old in
+    let n = p .long-new in
+    let m = p .numbered in
+    record { long-old = simp (length-take, length-drop) (omega arith); long-new = simp (length-take, length-drop) (omega arith); numbered = omega arith; called = p .called }
 
 add-n : tie.Need-add-n Inv-loop μ-loop
 add-n c =
-    let start = c .before .before .before .before .before .before .before .before .before in
-    let w = good-few (start .args .cells) (start .args .journal .now) (start .pre .0 .good) in
-    let m = start .pre .0 .numbered in
-    let n = start .pre .1 .1 in
-    let i = c .before .before .before .before .before .loop .inv .1 in
-    omega arith
-
-mul-at : tie.Need-mul-at Inv-loop μ-loop
-mul-at c =
-    let start = c .before .before .before .before .before .before .before .before .before in
-    let w = good-few (start .args .cells) (start .args .journal .now) (start .pre .0 .good) in
-    let m = start .pre .0 .numbered in
-    let n = start .pre .1 .1 in
-    let i = c .before .before .before .before .before .loop .inv .1 in
-    omega arith
-
-add-end : tie.Need-add-end Inv-loop μ-loop
-add-end c =
-    let start = c .before .before .before .before .before .before .before .before .before in
-    let w = good-few (start .args .cells) (start .args .journal .now) (start .pre .0 .good) in
-    let m = start .pre .0 .numbered in
-    let n = start .pre .1 .1 in
-    let i = c .before .before .before .before .before .loop .inv .1 in
-    omega arith
-
-sub-put-entry : tie.Need-sub-put-entry Inv-loop μ-loop
-sub-put-entry c = search needs
-
-part-put-entry-start : tie.Need-part-put-entry-start Inv-loop μ-loop
-part-put-entry-start c = search needs
-
-part-put-entry-end : tie.Need-part-put-entry-end Inv-loop μ-loop
-part-put-entry-end c = search needs
-
-sub-put-entry-2 : tie.Need-sub-put-entry-2 Inv-loop μ-loop
-sub-put-entry-2 c = search needs
-
-part-put-entry-start-2 : tie.Need-part-put-entry-start-2 Inv-loop μ-loop
-part-put-entry-start-2 c = search needs
-
-part-put-entry-end-2 : tie.Need-part-put-entry-end-2 Inv-loop μ-loop
-part-put-entry-end-2 c = search needs
-
-put-entry-requires : tie.Need-put-entry-requires Inv-loop μ-loop
-put-entry-requires c κs =
-    let start = c .before .before .before .before .before .before .before .before .before .before .before .before in
-    let w = good-calls (start .args .cells) (start .args .journal .now) (start .pre .0 .good) in
-    let o = start .pre .0 .long-old in
-    let m = start .pre .0 .numbered in
-    let n = start .pre .1 .0 in
-    (simp (length-take, length-drop) (omega arith), simp (length-take, length-drop) (omega arith), omega arith, omega arith)
+    let p = c .before .before .before .before .before .before .before .before .before .before .before .before .before .before .before .before .pre .numbered in
+    let l = c .before .before .before .before .before .before .before .before .before .before .before .before .loop in
+    let i = l .inv .1 in
+    let f = found-few (c .before .before .enter-stretch .ensures) in
+    omega (arith, f)
 
 loop-less : tie.Need-loop-less Inv-loop μ-loop
 loop-less c = search needs
 
 loop-again : tie.Need-loop-again Inv-loop μ-loop
 loop-again c =
-    let start = c .before .before .before .before .before .before .before .before .before .before .before .before .before .before .before in
+    let start = c .before .before .before .before .before .before .before .before .before .before .before .before .before .before .before .before in
     let a = start .args in
-    let g = start .pre .0 .good in
-    let l = c .before .before .before .before .before .before .before .before .before .before .before .loop in
-    let e = same-is (c .before .before .before .before .before .before .before) ∙ not-true (c .before .before .before .before .before .before .before .same-bytes .result) (c .before .before .before .before .before .before .if1 .taken) in
-    let m : 16 * l .k + 16 - 16 * l .k ≡ 16 = omega arith in
-    let o = start .pre .0 .long-old in (
-      omega arith,
-      omega arith,
-      count-changed (a .cells) (a .old .now) (a .new .now) (a .journal .now) g (l .k) (l .n) (l .inv .2) e,
-      same-len-mid (24 * (l .n + 1)) (24 * (l .n + 1) + 24 - 24 * (l .n + 1)) (l .journal) (c .before .before .put-entry .last .0) (c .before .before .put-entry .kept .0) ∙ l .inv .3,
-      turn-writes (a .cells) (a .old .now) (a .new .now) (a .journal .now) g (l .k) (l .n) (l .journal) (c .before .before .put-entry .last .0) (c .before .before .before .before .before .before .before .before .before .before .loop-test .taken) (omega arith) (l .inv .2) (omega arith) e (l .inv .4)
-          (rw (start .pre .1 .0, m) at (c .before .before .put-entry .ensures)),
-    )
+    let p = start .pre in
+    let l = c .before .before .before .before .before .before .before .before .before .before .before .before .loop in
+    let o = p .long-old in
+    let place = c .before .before .before .before .before .before .place-at in
+    let at = place .result in
+    let ys = c .before .before .enter-stretch .last .1 .1 .0 in
+    let v = 16 * l .k + 256 - 16 * l .k in
+    let m : v ≡ 16 * 16 = omega arith in
+    let found = stretch-found (a .call) (a .old .now) (a .new .now) (a .places .now) (l .places) ys (l .k) 16 (l .n) (c .before .before .enter-stretch .result) at v v
+    (p .called .0) (omega arith) (l .inv .2) (l .inv .4) (place .ensures .0) m m (c .before .before .enter-stretch .ensures) in
+    let few = changed-few (a .call) (l .k + 16) 0 (a .old .now) (a .new .now) in
+    (omega arith, omega (arith, found .0, few), found .0, same-len-mid at (length (l .places) - at) (l .places) ys (c .before .before .enter-stretch .kept .1 .1 .0) ∙ l .inv .3, found .1)
 
 loop-less-2 : tie.Need-loop-less-2 Inv-loop μ-loop
 loop-less-2 c = search needs
 
 loop-again-2 : tie.Need-loop-again-2 Inv-loop μ-loop
 loop-again-2 c =
-    let start = c .before .before .before .before .before .before .before .before .before .before in
-    let a = start .args in
-    let g = start .pre .0 .good in
-    let l = c .before .before .before .before .before .before .loop in
-    let e = same-is (c .before .before) ∙ not-true (c .before .before .same-bytes .result) (c .before .if1 .taken) in (
-      omega arith,
-      omega arith,
-      count-changed (a .cells) (a .old .now) (a .new .now) (a .journal .now) g (l .k) (l .n) (l .inv .2) e,
-      l .inv .3,
-      l .inv .4 ∙ turn-full (a .cells) (a .old .now) (a .new .now) (a .journal .now) g (l .k) (l .n) (l .inv .2) (omega arith) e,
-    )
-
-loop-less-3 : tie.Need-loop-less-3 Inv-loop μ-loop
-loop-less-3 c = search needs
-
-loop-again-3 : tie.Need-loop-again-3 Inv-loop μ-loop
-loop-again-3 c =
-    let start = c .before .before .before .before .before .before .before .before .before in
-    let a = start .args in
-    let g = start .pre .0 .good in
+    let a = c .before .before .before .before .before .before .before .before .before .args in
     let l = c .before .before .before .before .before .loop in
-    let e = same-is (c .before) ∙ not-false (c .before .same-bytes .result) (c .if1 .left) in
-    let s = more-same (a .cells) (a .old .now) (a .new .now) (a .journal .now) g (l .k) e in
-    (omega arith, omega arith, l .inv .2 ∙ ap length (sym s), l .inv .3, l .inv .4 ∙ ap (holding (a .journal .now)) (sym s))
+    let same = c .before .same-words in
+    let m : 16 * l .k + 256 - 16 * l .k ≡ 16 * 16 = omega arith in
+    let e = rw m at (sym (same .ensures)) ∙ not-false (same .result) (c .if1 .left) in
+    let s = sym (stretch-same (a .call) (a .old .now) (a .new .now) (l .k) 16 e) in
+    (omega arith, omega arith, l .inv .2 ∙ ap length s, l .inv .3, l .inv .4 ∙ ap (over (a .places .now)) s)
+
+mul-from-2 : tie.Need-mul-from-2 Inv-loop μ-loop
+mul-from-2 c = search needs
+
+place-at-requires-2 : tie.Need-place-at-requires-2 Inv-loop μ-loop
+place-at-requires-2 c κs = search needs
+
+sub-enter-stretch-4 : tie.Need-sub-enter-stretch-4 Inv-loop μ-loop
+sub-enter-stretch-4 c = search needs
+
+part-enter-stretch-start-4 : tie.Need-part-enter-stretch-start-4 Inv-loop μ-loop
+part-enter-stretch-start-4 c = search needs
+
+part-enter-stretch-end-4 : tie.Need-part-enter-stretch-end-4 Inv-loop μ-loop
+part-enter-stretch-end-4 c = search needs
+
+sub-enter-stretch-5 : tie.Need-sub-enter-stretch-5 Inv-loop μ-loop
+sub-enter-stretch-5 c = search needs
+
+part-enter-stretch-start-5 : tie.Need-part-enter-stretch-start-5 Inv-loop μ-loop
+part-enter-stretch-start-5 c = search needs
+
+part-enter-stretch-end-5 : tie.Need-part-enter-stretch-end-5 Inv-loop μ-loop
+part-enter-stretch-end-5 c = search needs
+
+sub-enter-stretch-6 : tie.Need-sub-enter-stretch-6 Inv-loop μ-loop
+sub-enter-stretch-6 c = search needs
+
+part-enter-stretch-start-6 : tie.Need-part-enter-stretch-start-6 Inv-loop μ-loop
+part-enter-stretch-start-6 c = search needs
+
+part-enter-stretch-end-6 : tie.Need-part-enter-stretch-end-6 Inv-loop μ-loop
+part-enter-stretch-end-6 c = search needs
+
+sub-enter-stretch-7 : tie.Need-sub-enter-stretch-7 Inv-loop μ-loop
+sub-enter-stretch-7 c = search needs
+
+enter-stretch-requires-2 : tie.Need-enter-stretch-requires-2 Inv-loop μ-loop
+enter-stretch-requires-2 c κs =
+    let p = c .before .before .before .before .before .before .before .before .before .pre in
+    let o = p .long-old in
+    let n = p .long-new in
+    let m = p .numbered in
+    record { long-old = simp (length-take, length-drop) (omega arith); long-new = simp (length-take, length-drop) (omega arith); numbered = omega arith; called = p .called }
+
+add-result : tie.Need-add-result Inv-loop μ-loop
+add-result c =
+    let p = c .before .before .before .before .before .before .before .before .before .before .before .before .pre .numbered in
+    let l = c .before .before .before .before .before .before .before .before .loop in
+    let i = l .inv .1 in
+    let f = found-few (c .before .before .enter-stretch2 .ensures) in
+    omega (arith, f)
 
 same-length : tie.Need-same-length Inv-loop μ-loop
 same-length c = search needs
 
 returns : tie.Need-returns Inv-loop μ-loop
 returns c =
-    let start = c .before .before .before .before .before in
+    let start = c .before .before .before .before .before .before .before .before .before .before .before .before in
     let a = start .args in
-    let l = c .before .loop in
-    let k : l .k ≡ a .cells = omega arith in
-    let s = ap (soFar (a .old .now) (a .new .now) (a .journal .now)) k ∙ all-entered (a .cells) (a .old .now) (a .new .now) (a .journal .now) (start .pre .0 .good) in
-    let i = l .inv .1 in
-    let n = start .pre .1 .1 in
-    record { counted = l .inv .2 ∙ ap length s; few = omega arith; written = l .inv .4 ∙ ap (holding (a .journal .now)) s }
+    let p = start .pre in
+    let l = c .before .before .before .before .before .before .before .before .loop in
+    let o = p .long-old in
+    let w = p .long-new in
+    let k : l .k + (a .cells - l .k) ≡ a .cells = omega arith in
+    let s = ap (λ i. changed (a .call) i 0 (a .old .now) (a .new .now)) k in
+    let place = c .before .before .before .before .before .before .place-at2 in
+    let last = c .before .before .enter-stretch2 in
+    let found = stretch-found (a .call) (a .old .now) (a .new .now) (a .places .now) (l .places) (last .last .1 .1 .0) (l .k) (a .cells - l .k) (l .n) (last .result) (place .result)
+    (length (a .old .now) - 16 * l .k) (length (a .new .now) - 16 * l .k) (p .called .0) (omega arith) (l .inv .2) (l .inv .4)
+    (place .ensures .0) (omega arith) (omega arith) (last .ensures) in
+    record {
+      found = record { counted = found .0 ∙ ap length s; written = found .1 ∙ ap (over (a .places .now)) s };
+      exact = exact (a .call) (a .cells) (a .old .now) (a .new .now) (omega arith) (omega arith);
+    }
 
 pub enter-cells-spec : {M : Type 1} → statement M
 enter-cells-spec =
@@ -188,31 +223,46 @@ enter-cells-spec =
     Inv-loop
     μ-loop
     loop-holds
+    add-loop
     add-k
-    mul-lo
-    add-hi
-    sub-same-bytes
-    part-same-bytes-start
-    part-same-bytes-end
-    sub-same-bytes-2
-    part-same-bytes-start-2
-    part-same-bytes-end-2
-    same-bytes-requires
+    mul-from
+    add-to
+    sub-same-words
+    part-same-words-start
+    part-same-words-end
+    sub-same-words-2
+    part-same-words-start-2
+    part-same-words-end-2
+    same-words-requires
+    place-at-requires
+    sub-enter-stretch
+    part-enter-stretch-start
+    part-enter-stretch-end
+    sub-enter-stretch-2
+    part-enter-stretch-start-2
+    part-enter-stretch-end-2
+    sub-enter-stretch-3
+    part-enter-stretch-start-3
+    part-enter-stretch-end-3
+    enter-stretch-requires
     add-n
-    mul-at
-    add-end
-    sub-put-entry
-    part-put-entry-start
-    part-put-entry-end
-    sub-put-entry-2
-    part-put-entry-start-2
-    part-put-entry-end-2
-    put-entry-requires
     loop-less
     loop-again
     loop-less-2
     loop-again-2
-    loop-less-3
-    loop-again-3
+    mul-from-2
+    place-at-requires-2
+    sub-enter-stretch-4
+    part-enter-stretch-start-4
+    part-enter-stretch-end-4
+    sub-enter-stretch-5
+    part-enter-stretch-start-5
+    part-enter-stretch-end-5
+    sub-enter-stretch-6
+    part-enter-stretch-start-6
+    part-enter-stretch-end-6
+    sub-enter-stretch-7
+    enter-stretch-requires-2
+    add-result
     same-length
     returns)

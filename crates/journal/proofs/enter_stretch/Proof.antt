@@ -1,0 +1,183 @@
+-- `journal::enter_stretch`: after k cells the changed ones of the first k are counted, and their entries written as far as there are places.
+use mathlib.Core.Path.{_≡_, refl, sym, ap, _∙_}
+use Prim.Native.Nat.{_≤_, _+_, _*_, _-_}
+use native.Mathlib.Omega.{arith}
+use lib.ListN.{length-take, length-drop, length}
+use borrow.Rule.Slice.PartMut.{same-len-mid}
+use borrow.Author.Tests.{not-true, not-false}
+use borrow.Author.Needs.{needs}
+use Rattle.journal.specs.Journal.{changed}
+use Rattle.journal.specs.Parts.{over}
+use Rattle.journal.proofs.Stretches.{none-changed, over-none, cell-same, cell-counted, cell-full, cell-writes}
+use Rattle.journal.proofs.enter_stretch.Statement.{statement}
+use Rattle.journal.proofs.enter_stretch.Tie as tie
+
+abbrev Inv-loop : tie.InvT-loop
+Inv-loop old new places₀ cells first call n₀ k₀ places n k =
+    (k ≤ cells) × (n ≤ k) × (n ≡ length (changed call k first old new)) × (length places ≡ length places₀) × (places ≡ over places₀ (changed call k first old new))
+
+abbrev μ-loop : tie.MeasureT-loop
+μ-loop old new places₀ cells first call n₀ k₀ places n k = cells - k
+
+loop-holds : tie.Need-loop-holds Inv-loop μ-loop
+loop-holds c =
+    let a = c .before .before .before .args in
+    let e = none-changed (a .call) (a .first) (a .old .now) (a .new .now) in
+    (omega arith, omega arith, ap length (sym e), refl, sym (over-none (a .places .now)) ∙ ap (over (a .places .now)) (sym e))
+
+add-k : tie.Need-add-k Inv-loop μ-loop
+add-k c = search needs
+
+mul-lo : tie.Need-mul-lo Inv-loop μ-loop
+mul-lo c = let p = c .before .before .before .before .before .pre .numbered in omega arith
+
+add-hi : tie.Need-add-hi Inv-loop μ-loop
+add-hi c = let p = c .before .before .before .before .before .pre .numbered in omega arith
+
+same-cell-requires : tie.Need-same-cell-requires Inv-loop μ-loop
+same-cell-requires c κs =
+    let p = c .before .before .before .before .before .pre in
+    let o = p .long-old in
+    let n = p .long-new in
+    (omega arith, omega arith)
+
+mul-at : tie.Need-mul-at Inv-loop μ-loop
+mul-at c =
+    let p = c .before .before .before .before .before .before .before .pre .numbered in
+    let i = c .before .before .before .loop .inv .1 in
+    omega arith
+
+add-end : tie.Need-add-end Inv-loop μ-loop
+add-end c =
+    let p = c .before .before .before .before .before .before .before .pre .numbered in
+    let i = c .before .before .before .loop .inv .1 in
+    omega arith
+
+add-n : tie.Need-add-n Inv-loop μ-loop
+add-n c =
+    let p = c .before .before .before .before .before .before .before .pre .numbered in
+    let i = c .before .before .before .loop .inv .1 in
+    omega arith
+
+sub-put-entry : tie.Need-sub-put-entry Inv-loop μ-loop
+sub-put-entry c = search needs
+
+part-put-entry-start : tie.Need-part-put-entry-start Inv-loop μ-loop
+part-put-entry-start c = search needs
+
+part-put-entry-end : tie.Need-part-put-entry-end Inv-loop μ-loop
+part-put-entry-end c = search needs
+
+add-put-entry : tie.Need-add-put-entry Inv-loop μ-loop
+add-put-entry c = let p = c .before .before .before .before .before .before .before .before .before .pre .numbered in omega arith
+
+sub-put-entry-2 : tie.Need-sub-put-entry-2 Inv-loop μ-loop
+sub-put-entry-2 c = search needs
+
+part-put-entry-start-2 : tie.Need-part-put-entry-start-2 Inv-loop μ-loop
+part-put-entry-start-2 c = search needs
+
+part-put-entry-end-2 : tie.Need-part-put-entry-end-2 Inv-loop μ-loop
+part-put-entry-end-2 c = let o = c .before .before .before .before .before .before .before .before .before .pre .long-old in omega arith
+
+put-entry-requires : tie.Need-put-entry-requires Inv-loop μ-loop
+put-entry-requires c κs =
+    let p = c .before .before .before .before .before .before .before .before .before .before .pre in
+    let o = p .long-old in
+    let m = p .numbered in
+    let i = c .before .before .before .before .before .before .loop .inv .3 in
+    (simp (length-take, length-drop) (omega arith), simp (length-take, length-drop) (omega arith), omega arith, p .called .1)
+
+loop-less : tie.Need-loop-less Inv-loop μ-loop
+loop-less c = search needs
+
+loop-again : tie.Need-loop-again Inv-loop μ-loop
+loop-again c =
+    let start = c .before .before .before .before .before .before .before .before .before .before .before .before .before in
+    let a = start .args in
+    let p = start .pre in
+    let l = c .before .before .before .before .before .before .before .before .before .loop in
+    let same = c .before .before .before .before .before .before .before .same-cell in
+    let e = sym (same .ensures) ∙ not-true (same .result) (c .before .before .before .before .before .before .if1 .taken) in
+    let m : 16 * l .k + 16 - 16 * l .k ≡ 16 = omega arith in
+    let o = p .long-old in
+    let ys = c .before .before .put-entry .last .0 in (
+      omega arith,
+      omega arith,
+      cell-counted (a .call) (a .first) (a .old .now) (a .new .now) (l .k) (l .n) (l .inv .2) e,
+      same-len-mid (24 * l .n) (24 * l .n + 24 - 24 * l .n) (l .places) ys (c .before .before .put-entry .kept .0) ∙ l .inv .3,
+      cell-writes (a .call) (a .first) (a .old .now) (a .new .now) (a .places .now) (l .places) ys (l .k) (l .n) (p .called .0) (omega arith) (l .inv .2) (omega arith) e (l .inv .4)
+          (rw m at (c .before .before .put-entry .ensures)),
+    )
+
+loop-less-2 : tie.Need-loop-less-2 Inv-loop μ-loop
+loop-less-2 c = search needs
+
+loop-again-2 : tie.Need-loop-again-2 Inv-loop μ-loop
+loop-again-2 c =
+    let start = c .before .before .before .before .before .before .before .before in
+    let a = start .args in
+    let l = c .before .before .before .before .loop in
+    let same = c .before .before .same-cell in
+    let e = sym (same .ensures) ∙ not-true (same .result) (c .before .if1 .taken) in
+    let i = l .inv .3 in (
+      omega arith,
+      omega arith,
+      cell-counted (a .call) (a .first) (a .old .now) (a .new .now) (l .k) (l .n) (l .inv .2) e,
+      i,
+      l .inv .4 ∙ cell-full (a .call) (a .first) (a .old .now) (a .new .now) (a .places .now) (l .k) (l .n) (l .inv .2) (omega arith) e,
+    )
+
+loop-less-3 : tie.Need-loop-less-3 Inv-loop μ-loop
+loop-less-3 c = search needs
+
+loop-again-3 : tie.Need-loop-again-3 Inv-loop μ-loop
+loop-again-3 c =
+    let a = c .before .before .before .before .before .before .before .args in
+    let l = c .before .before .before .loop in
+    let same = c .before .same-cell in
+    let e = sym (same .ensures) ∙ not-false (same .result) (c .if1 .left) in
+    let s = sym (cell-same (a .call) (a .first) (a .old .now) (a .new .now) (l .k) e) in
+    (omega arith, omega arith, l .inv .2 ∙ ap length s, l .inv .3, l .inv .4 ∙ ap (over (a .places .now)) s)
+
+same-length : tie.Need-same-length Inv-loop μ-loop
+same-length c = search needs
+
+returns : tie.Need-returns Inv-loop μ-loop
+returns c =
+    let a = c .before .before .before .before .before .args in
+    let l = c .before .loop in
+    let k : l .k ≡ a .cells = omega arith in
+    let s = ap (λ i. changed (a .call) i (a .first) (a .old .now) (a .new .now)) k in
+    record { counted = l .inv .2 ∙ ap length s; written = l .inv .4 ∙ ap (over (a .places .now)) s }
+
+pub enter-stretch-spec : {M : Type 1} → statement M
+enter-stretch-spec =
+    tie.close
+    (tie.spec
+    Inv-loop
+    μ-loop
+    loop-holds
+    add-k
+    mul-lo
+    add-hi
+    same-cell-requires
+    mul-at
+    add-end
+    add-n
+    sub-put-entry
+    part-put-entry-start
+    part-put-entry-end
+    add-put-entry
+    sub-put-entry-2
+    part-put-entry-start-2
+    part-put-entry-end-2
+    put-entry-requires
+    loop-less
+    loop-again
+    loop-less-2
+    loop-again-2
+    loop-less-3
+    loop-again-3
+    same-length
+    returns)
