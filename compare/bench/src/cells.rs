@@ -9,21 +9,24 @@ use std::hint::black_box;
 use std::iter::repeat_with;
 use std::time::{Duration, Instant};
 use token_vault::exports;
-use token_vault::layout::{CELLS, CELL_LENGTH, EVENTS_LENGTH, JOURNAL_ENTRY_LENGTH, JOURNAL_LENGTH_MAX};
+use token_vault::layout::{CELLS, CELL_LENGTH, EVENTS_LENGTH, IMAGE_LENGTH, JOURNAL_ENTRY_LENGTH, JOURNAL_LENGTH_MAX};
 
-/// A round of one subject on one pair of images, and how many of them; the best counts.
+/// A round of one subject on one call, and how many times all rounds of all rows are made; of each the best counts.
 const ROUND: Duration = Duration::from_micros(100);
-const ROUNDS: usize = 30;
+const PASSES: usize = 60;
+/// By words, by bytes, one read of both images, and the call in an open transaction with its undo.
+const SUBJECTS: usize = 4;
 /// The calls of a row.
 const CALLS: u32 = 16;
 /// Pairs of images at random, for the test of both forms.
 const PAIRS: u64 = 4_000;
 
-/// A call with the image before it and the one that it left.
+/// A call with the image before it and the one that it left, and the best microseconds of each subject.
 struct Change {
     record: Vec<u8>,
-    before: Box<Image>,
-    after: Box<Image>,
+    before: Box<Aligned<IMAGE_LENGTH>>,
+    after: Box<Aligned<IMAGE_LENGTH>>,
+    best: [f64; SUBJECTS],
 }
 
 /// The calls of one kind from one image.
@@ -32,8 +35,13 @@ struct Row {
     changes: Vec<Change>,
 }
 
-fn boxed(image: &[u8]) -> Box<Image> {
-    image.to_vec().into_boxed_slice().try_into().expect("an image")
+/// Bytes from the start of a cache line on, so that no time hangs on where the allocator put them.
+#[repr(align(64))]
+#[derive(Clone)]
+struct Aligned<const N: usize>([u8; N]);
+
+fn boxed(image: &[u8]) -> Box<Aligned<IMAGE_LENGTH>> {
+    Box::new(Aligned(image.try_into().expect("an image")))
 }
 
 fn accepted(image: &mut [u8], record: &[u8]) {
@@ -49,7 +57,7 @@ fn changes(image: &[u8], calls: impl Iterator<Item = (Vec<Vec<u8>>, Vec<u8>)>) -
             first.iter().for_each(|record| accepted(&mut image, record));
             let before = boxed(&image);
             accepted(&mut image, &record);
-            Change { record, before, after: boxed(&image) }
+            Change { record, before, after: boxed(&image), best: [f64::MAX; SUBJECTS] }
         })
         .collect()
 }
@@ -106,21 +114,21 @@ pub fn compare(images: [&[u8]; 2], seed: u64) {
     let mut calls = 0;
     for row in images.iter().flat_map(|image| rows(image, seed)) {
         for change in &row.changes {
-            agree(&change.before, &change.after, CELLS, 0);
+            agree(&change.before.0, &change.after.0, CELLS, 0);
             calls += 1;
         }
     }
     let mut random = Random::of(seed, 2);
     let mut before = boxed(images[0]);
     for _ in 0..PAIRS {
-        random.fill(&mut before[..]);
+        random.fill(&mut before.0);
         let mut after = before.clone();
         let most = random.of_list(&[2, 8, 64, 512, 4_096]);
         for _ in 0..random.below(most) {
-            let bit = random.index(8 * after.len());
-            after[bit / 8] ^= 1 << (bit % 8);
+            let bit = random.index(8 * after.0.len());
+            after.0[bit / 8] ^= 1 << (bit % 8);
         }
-        agree(&before, &after, random.index(CELLS), random.index(JOURNAL_ENTRY_LENGTH));
+        agree(&before.0, &after.0, random.index(CELLS), random.index(JOURNAL_ENTRY_LENGTH));
     }
     println!(
         "bench: the changed cells of {calls} calls and {PAIRS} pairs of images at random, by words, by bytes and by the model: the same"
@@ -134,92 +142,118 @@ fn read(a: &Image, b: &Image) -> u64 {
     words(a) | words(b)
 }
 
-/// Microseconds of each subject: the best of its rounds, the subjects in turn.
-fn best<const N: usize>(mut subjects: [&mut dyn FnMut(); N]) -> [f64; N] {
-    let mut best = [f64::MAX; N];
-    for _ in 0..ROUNDS {
-        for (subject, best) in subjects.iter_mut().zip(&mut best) {
-            let start = Instant::now();
-            let mut times = 0;
-            while start.elapsed() < ROUND {
-                (0..8).for_each(|_| subject());
-                times += 8;
-            }
-            *best = best.min(start.elapsed().as_secs_f64() * 1e6 / times as f64);
-        }
+/// Microseconds that the subject takes, in one round.
+fn round(mut subject: impl FnMut()) -> f64 {
+    subject();
+    let start = Instant::now();
+    let mut times = 0;
+    while start.elapsed() < ROUND {
+        (0..8).for_each(|_| subject());
+        times += 8;
     }
-    best
+    start.elapsed().as_secs_f64() * 1e6 / times as f64
 }
 
-/// By words, by bytes, one read of both images, and the call in an open transaction with its undo.
-fn time(change: &Change) -> [f64; 4] {
-    let Change { record, before, after } = change;
-    let mut places = [vec![0; CELLS * JOURNAL_ENTRY_LENGTH], vec![0; CELLS * JOURNAL_ENTRY_LENGTH]];
-    let [first, second] = &mut places;
-    let (mut image, mut journal) = (before.to_vec(), vec![0; JOURNAL_LENGTH_MAX]);
-    assert_eq!(exports::begin(&mut image, &mut journal), 0);
+/// A round of each subject on one call.
+fn time(change: &mut Change, places: &mut [u8]) {
+    let Change { record, before, after, best } = change;
+    let (before, after) = (&before.0, &after.0);
+    let (mut image, mut journal) = (boxed(before), Box::new(Aligned([0; JOURNAL_LENGTH_MAX])));
+    let (image, journal) = (&mut image.0, &mut journal.0);
+    assert_eq!(exports::begin(image, journal), 0);
     let (mut events, mut value, mut count) = ([0; EVENTS_LENGTH], [0; 16], 0);
-    best([
-        &mut || _ = black_box(by_words(black_box(before), black_box(after), first)),
-        &mut || _ = black_box(by_bytes(black_box(before), black_box(after), second)),
-        &mut || _ = black_box(read(black_box(before), black_box(after))),
-        &mut || {
-            assert_eq!(exports::call(&mut image, &mut journal, record, &mut events, &mut value, &mut count), 0);
-            assert_eq!(exports::undo(&mut image, &mut journal), 0);
-        },
-    ])
+    let changed = by_words(before, after, places);
+    let found = [
+        round(|| assert_eq!(by_words(black_box(before), black_box(after), places), changed)),
+        round(|| assert_eq!(by_bytes(black_box(before), black_box(after), places), changed)),
+        round(|| _ = black_box(read(black_box(before), black_box(after)))),
+        round(|| {
+            assert_eq!(exports::call(image, journal, record, &mut events, &mut value, &mut count), 0);
+            assert_eq!(exports::undo(image, journal), 0);
+        }),
+    ];
+    best.iter_mut().zip(found).for_each(|(best, us)| *best = best.min(us));
 }
 
 fn changed(change: &Change) -> usize {
     let cells = |image: &'_ Image| image.as_chunks::<CELL_LENGTH>().0.to_vec();
-    cells(&change.before).iter().zip(cells(&change.after)).filter(|(a, b)| **a != *b).count()
+    cells(&change.before.0).iter().zip(cells(&change.after.0)).filter(|(a, b)| **a != *b).count()
 }
 
 fn line(row: &Row) {
     let calls = row.changes.len() as f64;
     let cells = row.changes.iter().map(changed).sum::<usize>() as f64 / calls;
-    let mut sums = [0.0; 4];
-    for change in &row.changes {
-        sums.iter_mut().zip(time(change)).for_each(|(sum, us)| *sum += us / calls);
-    }
-    let [words, bytes, read, call] = sums;
+    let [words, bytes, read, call] = std::array::from_fn(|i| row.changes.iter().map(|change| change.best[i]).sum::<f64>() / calls);
     println!("  {:42}{cells:8.1}{words:9.2}{bytes:9.2}{:9.2}{read:9.2}{call:10.2}", row.name, bytes / words);
 }
 
-/// An open journal of 48,024 bytes with so many entries, one a call up to the most calls.
-fn journal_of(entries: usize) -> Vec<u8> {
-    let mut journal = vec![0; JOURNAL_LENGTH_MAX];
-    journal::begin(&mut journal);
-    let mut images = [boxed(&vec![0; CELLS * CELL_LENGTH]), boxed(&vec![0; CELLS * CELL_LENGTH])];
-    for cell in 0..2.min(entries) {
-        images[1][cell * CELL_LENGTH] = 1;
+/// An open journal of 48,024 bytes with so many entries, two of each call.
+fn journal_of(entries: usize) -> Box<Aligned<JOURNAL_LENGTH_MAX>> {
+    let mut journal = Box::new(Aligned([0; JOURNAL_LENGTH_MAX]));
+    journal::begin(&mut journal.0);
+    let before = vec![0; IMAGE_LENGTH];
+    let mut after = before.clone();
+    (after[0], after[CELL_LENGTH]) = (1, 1);
+    for _ in 0..entries / 2 {
+        assert!(journal::enter(&mut journal.0, &before, &after));
     }
-    while journal::entries(&journal) < entries {
-        assert!(journal::enter(&mut journal, &images[0][..], &images[1][..]));
-    }
-    assert_eq!(journal::entries(&journal), entries);
+    assert_eq!(journal::entries(&journal.0), entries);
     journal
 }
 
+/// What is timed by itself: its name, what it does, and its best microseconds.
+struct Alone {
+    name: String,
+    subject: Box<dyn FnMut()>,
+    best: f64,
+}
+
+fn alone(name: String, subject: impl FnMut() + 'static) -> Alone {
+    Alone { name, subject: Box::new(subject), best: f64::MAX }
+}
+
+/// Another read of both images, both forms where all has changed, and the journal's test.
+fn alone_subjects(image: &[u8]) -> Vec<Alone> {
+    let (image, twin) = (boxed(image), boxed(image));
+    let memcmp = alone("two equal images, by the C library's memcmp".into(), move || assert!(black_box(&image.0) == black_box(&twin.0)));
+    let every_cell = [("words", by_words as fn(&Image, &Image, &mut [u8]) -> u32), ("bytes", by_bytes)].map(|(name, form)| {
+        let (before, after) = (boxed(&[0; IMAGE_LENGTH]), boxed(&[1; IMAGE_LENGTH]));
+        let mut places = Box::new(Aligned([0; CELLS * JOURNAL_ENTRY_LENGTH]));
+        alone(format!("every cell changed, by {name}"), move || {
+            assert_eq!(form(black_box(&before.0), black_box(&after.0), &mut places.0), CELLS as u32);
+        })
+    });
+    let journals = [0, 32, 2_000].map(|entries| {
+        let journal = journal_of(entries);
+        alone(format!("the test of an open journal with {entries} entries"), move || assert!(good_journal(black_box(&journal.0))))
+    });
+    [memcmp].into_iter().chain(every_cell).chain(journals).collect()
+}
+
 pub fn print(images: [(&str, &[u8]); 2], seed: u64) {
+    let mut others = alone_subjects(images[1].1);
+    let mut tables = images.map(|(name, image)| (name, rows(image, seed)));
+    for change in tables.iter().flat_map(|(_, rows)| rows).flat_map(|row| &row.changes) {
+        agree(&change.before.0, &change.after.0, CELLS, 0);
+    }
+    let mut places = Box::new(Aligned([0; CELLS * JOURNAL_ENTRY_LENGTH]));
+    for _ in 0..PASSES {
+        for change in tables.iter_mut().flat_map(|(_, rows)| rows).flat_map(|row| &mut row.changes) {
+            time(change, &mut places.0);
+        }
+        for other in &mut others {
+            other.best = other.best.min(round(&mut other.subject));
+        }
+    }
     println!("{:44}{:>8}{:>9}{:>9}{:>9}{:>9}{:>10}", "", "cells", "by words", "by bytes", "bytes /", "one read", "call and");
     println!("{:44}{:>8}{:>9}{:>9}{:>9}{:>9}{:>10}", "", "changed", "us", "us", "words", "us", "undo, us");
-    for (name, image) in images {
+    for (name, rows) in &tables {
         println!("{name}");
-        rows(image, seed).iter().for_each(line);
+        rows.iter().for_each(line);
     }
-    let twin = boxed(images[1].1);
-    let [us] = best([&mut || assert!(black_box(images[1].1) == black_box(&twin[..]))]);
-    println!("both images read by the C library's memcmp");
-    println!("  {:50}{us:9.2}", "two equal images, the widest instructions here");
-    println!("the test of a journal of {JOURNAL_LENGTH_MAX} bytes");
-    for entries in [0, 32, 2_000] {
-        let journal = journal_of(entries);
-        let [us] = best([&mut || assert!(good_journal(black_box(&journal)))]);
-        println!("  {:50}{us:9.2}", format!("open, {entries} entries"));
+    println!("no call");
+    for Alone { name, best, .. } in &others {
+        println!("  {name:50}{best:9.2}");
     }
-    println!(
-        "means of {CALLS} calls a row, seed {seed}; of each call the best of {ROUNDS} rounds of {} us, the subjects in turn",
-        ROUND.as_micros()
-    );
+    println!("means of {CALLS} calls a row, seed {seed}; of each call the best of {PASSES} rounds of {} us", ROUND.as_micros());
 }
