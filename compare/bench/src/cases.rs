@@ -12,7 +12,7 @@ const PAYEE: u8 = 4;
 const TOKEN: u8 = 48;
 const MUCH: i128 = 1 << 100;
 /// Who pays and is paid in batches: the owner and fifteen others.
-pub const HOLDERS: std::ops::Range<u8> = OWNER..OWNER + 16;
+const HOLDERS: std::ops::Range<u8> = OWNER..OWNER + 16;
 const TIMELOCK: u64 = 172_800;
 
 /// Calls that are made over and over, and the calls before the first of them.

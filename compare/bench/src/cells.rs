@@ -1,12 +1,11 @@
 //! The changed cells of two images found a word and a byte at a time: on the images before and after each call of a seeded list,
 //! beside one read of both images and beside the whole call in an open transaction; and the journal's test.
-use crate::cases::{batch, migration, owner, HOLDERS};
+use crate::cases::{batch, migration, owner};
 use crate::forms::{by_bytes, by_words, good_journal, Image};
 use model::build::{record, Fields};
 use model::journal;
 use model::random::Random;
 use std::hint::black_box;
-use std::iter::repeat_with;
 use std::time::{Duration, Instant};
 use token_vault::exports;
 use token_vault::layout::{CELLS, CELL_LENGTH, EVENTS_LENGTH, IMAGE_LENGTH, JOURNAL_ENTRY_LENGTH, JOURNAL_LENGTH_MAX};
@@ -62,19 +61,31 @@ fn changes(image: &[u8], calls: impl Iterator<Item = (Vec<Vec<u8>>, Vec<u8>)>) -
         .collect()
 }
 
+/// Sixteen of the addresses above the vault's, in any order.
+fn payees(random: &mut Random) -> Vec<u8> {
+    let mut addresses: Vec<u8> = (2..64).collect();
+    for place in 0..16 {
+        let other = place + random.index(addresses.len() - place);
+        addresses.swap(place, other);
+    }
+    addresses.truncate(16);
+    addresses
+}
+
 /// The seeded list: so many calls of each kind.
 fn rows(image: &[u8], seed: u64) -> Vec<Row> {
-    let mut random = Random::of(seed, 0);
-    let mut amount = move || 1 + random.below(1_000) as i128;
-    let mut random = Random::of(seed, 1);
-    let mut holder = move || HOLDERS.start + random.below(HOLDERS.len() as u64) as u8;
+    let random = &mut Random::of(seed, 0);
+    let amount = |random: &mut Random| 1 + random.below(1_000) as i128;
     let sequences = 7..7 + CALLS;
-    let deposits = sequences.clone().map(|sequence| (vec![], record(Fields { amount: amount(), sequence, ..owner(2) })));
+    let deposits = sequences.clone().map(|sequence| (vec![], record(Fields { amount: amount(random), sequence, ..owner(2) })));
     let deposits = changes(image, deposits);
-    let payouts = sequences.clone().map(|_| (vec![], batch(6, repeat_with(|| (holder(), amount())))));
+    let payouts = sequences.clone().map(|_| {
+        let items: Vec<(u8, i128)> = payees(random).into_iter().map(|payee| (payee, amount(random))).collect();
+        (vec![], batch(6, items.into_iter()))
+    });
     let payouts = changes(image, payouts);
     let migrations = sequences.clone().map(|sequence| {
-        let [deposit, initiate, execute] = migration(sequence, holder(), amount());
+        let [deposit, initiate, execute] = migration(sequence, payees(random)[0], amount(random));
         (vec![deposit, initiate], execute)
     });
     let migrations = changes(image, migrations);
@@ -118,7 +129,7 @@ pub fn compare(images: [&[u8]; 2], seed: u64) {
             calls += 1;
         }
     }
-    let mut random = Random::of(seed, 2);
+    let mut random = Random::of(seed, 1);
     let mut before = boxed(images[0]);
     for _ in 0..PAIRS {
         random.fill(&mut before.0);
