@@ -204,11 +204,27 @@ module _ (b : List ℕ) (es : List Entry) (long : Long es) where
           rw (take-all (length b) (over b es) (omega arith), drop-of-length-le (over b es) {i = length b} (omega arith), over-short [] fs (omega arith), append-nil (over b es))
           (over-full b es fs (omega arith))
 
--- ---- a stretch, cell by cell: after k cells the entries of the first k are written
+-- ---- a walk over so many cells: after k of them, n have changed, and their entries are written as far as there are places
 abbrev pub cellOf : ℕ → List ℕ → List ℕ
 cellOf k x = take 16 (drop (16 * k) x)
 
 module _ (call first : ℕ) (a b : List ℕ) where
+  abbrev pub Walked : (p : List ℕ) (cells k n : ℕ) (q : List ℕ) → Type 0
+  Walked p cells k n q = (k ≤ cells) × (n ≤ k) × (n ≡ length (changed call k first a b)) × (length q ≡ length p) × (q ≡ over p (changed call k first a b))
+
+  pub walk-starts : (p : List ℕ) (cells : ℕ) → Walked p cells 0 0 p
+  walk-starts p cells =
+      let e = sym (none-changed call first a b) in
+      (omega arith, omega arith, ap length e, refl, sym (over-none p) ∙ ap (over p) e)
+
+  pub walk-ends : (p q : List ℕ) (cells k n : ℕ) → Walked p cells k n q → cells ≤ k → Found cells first call a b p n q
+  walk-ends p q cells k n w h =
+      let m = w .0 in
+      let e : k ≡ cells = omega arith in
+      let s = ap (λ i. changed call i first a b) e in
+      record { counted = w .2 ∙ ap length s; written = w .4 ∙ ap (over p) s }
+
+  -- ---- one cell more
   abbrev pub entryOf : ℕ → Entry
   entryOf k = record { cell = first + k; call = call; old = cellOf k a }
 
@@ -218,50 +234,81 @@ module _ (call first : ℕ) (a b : List ℕ) where
   pub cell-changed : (k : ℕ) → sameBytes (cellOf k a) (cellOf k b) ≡ false → changed call (k + 1) first a b ≡ changed call k first a b ++ (entryOf k ∷ [])
   cell-changed k e = rw (changed-append call k 1 first a b, changed-one call (first + k) (drop (16 * k) a) (drop (16 * k) b), e)
 
-  pub cell-counted : (k n : ℕ) → n ≡ length (changed call k first a b) → sameBytes (cellOf k a) (cellOf k b) ≡ false → n + 1 ≡ length (changed call (k + 1) first a b)
-  cell-counted k n en e = sym (ap length (cell-changed k e) ∙ length-append (changed call k first a b) (entryOf k ∷ []) ∙ omega arith)
+  module _ (p q : List ℕ) (cells k n : ℕ) (w : Walked p cells k n q) (h : k < cells) where
+    pub walk-same : sameBytes (cellOf k a) (cellOf k b) ≡ true → Walked p cells (k + 1) n q
+    walk-same e =
+        let m = w .1 in
+        let s = sym (cell-same k e) in
+        (omega arith, omega arith, w .2 ∙ ap length s, w .3, w .4 ∙ ap (over p) s)
 
-  -- a turn with no place left
-  pub cell-full : (p : List ℕ) (k n : ℕ) → n ≡ length (changed call k first a b) → length p < 24 * n + 24 → sameBytes (cellOf k a) (cellOf k b) ≡ false
-      → over p (changed call k first a b) ≡ over p (changed call (k + 1) first a b)
-  cell-full p k n en f e = rw (cell-changed k e) (sym (over-full p (changed call k first a b) (entryOf k ∷ []) (omega arith)))
+    counted : sameBytes (cellOf k a) (cellOf k b) ≡ false → n + 1 ≡ length (changed call (k + 1) first a b)
+    counted e = let c = w .2 in sym (ap length (cell-changed k e) ∙ length-append (changed call k first a b) (entryOf k ∷ []) ∙ omega arith)
 
-  -- a turn that writes an entry; the 24 bytes come back as a part of the places
-  pub cell-writes : (p q ys : List ℕ) (k n : ℕ) → 1 ≤ call → 16 * k ≤ length a → n ≡ length (changed call k first a b) → 24 * n + 24 ≤ length p
-      → sameBytes (cellOf k a) (cellOf k b) ≡ false → q ≡ over p (changed call k first a b) → ys ≡ entryBytes (entryOf k)
-      → take (24 * n) q ++ (ys ++ drop (24 * n + 24 - 24 * n) (drop (24 * n) q)) ≡ over p (changed call (k + 1) first a b)
-  unfolding placeAt
-  cell-writes p q ys k n f l en h e eq ey =
-      let es = changed call k first a b in
-      let long = changed-long call k first a b f l in
-      let m : 24 * n + 24 - 24 * n ≡ 24 = omega arith in
-      let w : leb (24 * length es) (length p) ≡ true = le-leb (24 * length es) (length p) (omega arith) in
-      let o = over-long p es long in
-      let d : 24 ≤ length (drop (24 * length es) (over p es)) = rw (length-drop (24 * length es) (over p es)) (omega arith) in
-      rw (cell-changed k e, over-append p es long (entryOf k ∷ []), w, over-one (drop (24 * length es) (over p es)) (entryOf k) d, eq, ey, m, en)
+    -- no place left
+    pub walk-full : sameBytes (cellOf k a) (cellOf k b) ≡ false → length q < 24 * n + 24 → Walked p cells (k + 1) (n + 1) q
+    walk-full e f =
+        let m = w .1 in
+        let c = w .2 in
+        let l = w .3 in (
+          omega arith,
+          omega arith,
+          counted e,
+          l,
+          w .4 ∙ rw (cell-changed k e) (sym (over-full p (changed call k first a b) (entryOf k ∷ []) (omega arith))),
+        )
+
+    -- an entry written; the 24 bytes come back as a part of the places
+    written-over : (ys : List ℕ) → sameBytes (cellOf k a) (cellOf k b) ≡ false → 24 * n + 24 ≤ length q → 1 ≤ call → 16 * cells ≤ length a → ys ≡ entryBytes (entryOf k)
+        → take (24 * n) q ++ (ys ++ drop (24 * n + 24 - 24 * n) (drop (24 * n) q)) ≡ over p (changed call (k + 1) first a b)
+    unfolding placeAt
+    written-over ys e f o l ey =
+        let es = changed call k first a b in
+        let c = w .2 in
+        let i = w .3 in
+        let long = changed-long call k first a b o (omega arith) in
+        let m : 24 * n + 24 - 24 * n ≡ 24 = omega arith in
+        let t : leb (24 * length es) (length p) ≡ true = le-leb (24 * length es) (length p) (omega arith) in
+        let v = over-long p es long in
+        let d : 24 ≤ length (drop (24 * length es) (over p es)) = rw (length-drop (24 * length es) (over p es)) (omega arith) in
+        rw (cell-changed k e, over-append p es long (entryOf k ∷ []), t, over-one (drop (24 * length es) (over p es)) (entryOf k) d, w .4, ey, m, c)
+
+    pub walk-writes : (ys : List ℕ) → sameBytes (cellOf k a) (cellOf k b) ≡ false → 24 * n + 24 ≤ length q → 1 ≤ call → 16 * cells ≤ length a → ys ≡ entryBytes (entryOf k)
+        → Walked p cells (k + 1) (n + 1) (take (24 * n) q ++ (ys ++ drop (24 * n + 24 - 24 * n) (drop (24 * n) q)))
+    walk-writes ys e f o l ey =
+        let m = w .1 in
+        let r = written-over ys e f o l ey in
+        (omega arith, omega arith, counted e, ap length r ∙ over-long p (changed call (k + 1) first a b) (changed-long call (k + 1) first a b o (omega arith)), r)
 
 pub found-few : {m k call r : ℕ} {x y q ys : List ℕ} → Found m k call x y q r ys → r ≤ m
 found-few {m} {k} {call} {r} {x} {y} f = rw (f .counted) (changed-few call m k x y)
 
--- ---- an image, stretch by stretch: m cells behind the first k
-module _ (call : ℕ) (a b : List ℕ) where
-  pub stretch-same : (k m : ℕ) → sameBytes (take (16 * m) (drop (16 * k) a)) (take (16 * m) (drop (16 * k) b)) ≡ true → changed call (k + m) 0 a b ≡ changed call k 0 a b
-  stretch-same k m e = rw (changed-append call k m 0 a b, changed-none call m (0 + k) (drop (16 * k) a) (drop (16 * k) b) e) (append-nil (changed call k 0 a b))
+-- ---- a walk over an image: m cells more
+module _ (call : ℕ) (a b p q : List ℕ) (cells k m n : ℕ) (w : Walked call 0 a b p cells k n q) (h : k + m ≤ cells) where
+  pub stretch-same : sameBytes (take (16 * m) (drop (16 * k) a)) (take (16 * m) (drop (16 * k) b)) ≡ true → Walked call 0 a b p cells (k + m) n q
+  stretch-same e =
+      let i = w .1 in
+      let s : changed call k 0 a b ≡ changed call (k + m) 0 a b =
+      sym (rw (changed-append call k m 0 a b, changed-none call m (0 + k) (drop (16 * k) a) (drop (16 * k) b) e) (append-nil (changed call k 0 a b))) in
+      (h, omega arith, w .2 ∙ ap length s, w .3, w .4 ∙ ap (over p) s)
 
   -- the places from `at` on come back as a part
-  pub stretch-found : (p q ys : List ℕ) (k m n r at v w : ℕ) → 1 ≤ call → 16 * k ≤ length a → n ≡ length (changed call k 0 a b) → q ≡ over p (changed call k 0 a b)
-      → at ≡ placeAt n (length q) → v ≡ 16 * m → w ≡ 16 * m
-      → Found m k call (take v (drop (16 * k) a)) (take w (drop (16 * k) b)) (take (length q - at) (drop at q)) r ys
-      → (n + r ≡ length (changed call (k + m) 0 a b)) × (take at q ++ (ys ++ drop (length q - at) (drop at q)) ≡ over p (changed call (k + m) 0 a b))
-  stretch-found p q ys k m n r at v w f l en eq ea ev ew found =
+  pub stretch-found : (ys : List ℕ) (r at u v : ℕ) → 1 ≤ call → 16 * cells ≤ length a → at ≡ placeAt n (length q) → u ≡ 16 * m → v ≡ 16 * m
+      → Found m k call (take u (drop (16 * k) a)) (take v (drop (16 * k) b)) (take (length q - at) (drop at q)) r ys
+      → Walked call 0 a b p cells (k + m) (n + r) (take at q ++ (ys ++ drop (length q - at) (drop at q)))
+  stretch-found ys r at u v f l ea eu ev found =
       let es = changed call k 0 a b in
       let fs = changed call m k (drop (16 * k) a) (drop (16 * k) b) in
-      let same : changed call m k (take v (drop (16 * k) a)) (take w (drop (16 * k) b)) ≡ fs = rw (ev, ew) (changed-front call m k (drop (16 * k) a) (drop (16 * k) b)) in
+      let same : changed call m k (take u (drop (16 * k) a)) (take v (drop (16 * k) b)) ≡ fs = rw (eu, ev) (changed-front call m k (drop (16 * k) a) (drop (16 * k) b)) in
       let all : changed call (k + m) 0 a b ≡ es ++ fs = rw (zero-add k) at (changed-append call k m 0 a b) in
-      let long = changed-long call k 0 a b f l in
-      let o : length q ≡ length p = ap length eq ∙ over-long p es long in
+      let long = changed-long call k 0 a b f (omega arith) in
       let ey : ys ≡ over (drop at q) fs = found .written ∙ rw (rest-all at q, same) in
-      let join : over p (es ++ fs) ≡ take at q ++ over (drop at q) fs = rw (ea, en, o, eq) (over-append p es long fs) in (
-        rw (all, length-append es fs, ← same, ← found .counted, en),
-        rest-put at q (take at q) ys ∙ rw (ey, all, join),
+      let join : over p (es ++ fs) ≡ take at q ++ over (drop at q) fs = rw (ea, w .2, w .3, w .4) (over-append p es long fs) in
+      let t : take at q ++ (ys ++ drop (length q - at) (drop at q)) ≡ over p (changed call (k + m) 0 a b) = rest-put at q (take at q) ys ∙ rw (ey, all, join) in
+      let i = w .1 in
+      let few = found-few found in (
+        h,
+        omega (arith, i, few),
+        rw (all, length-append es fs, ← same, ← found .counted, w .2),
+        ap length t ∙ over-long p (changed call (k + m) 0 a b) (changed-long call (k + m) 0 a b f (omega arith)),
+        t,
       )

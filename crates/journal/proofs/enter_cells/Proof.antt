@@ -1,30 +1,23 @@
--- `journal::enter_cells`: after k cells, whole stretches of them, the changed ones are counted, and their entries written as far as there are places.
-use mathlib.Core.Path.{_≡_, refl, sym, ap, _∙_}
-use Prim.Native.Nat.{_≤_, _+_, _*_, _-_}
+-- `journal::enter_cells`: a walk over the cells, a stretch at a time.
+use mathlib.Core.Path.{_≡_, sym, _∙_}
+use Prim.Native.Nat.{_+_, _*_, _-_}
 use native.Mathlib.Omega.{arith}
 use lib.ListN.{length-take, length-drop, length}
-use borrow.Rule.Slice.PartMut.{same-len-mid}
 use borrow.Author.Tests.{not-false}
 use borrow.Author.Needs.{needs}
-use Rattle.journal.specs.Journal.{changed}
-use Rattle.journal.specs.Parts.{over}
 use Rattle.journal.proofs.Exact.{exact}
-use Rattle.journal.proofs.Stretches.{none-changed, over-none, changed-few, found-few, stretch-same, stretch-found}
+use Rattle.journal.proofs.Stretches.{Walked, walk-starts, walk-ends, found-few, stretch-same, stretch-found}
 use Rattle.journal.proofs.enter_cells.Statement.{statement}
 use Rattle.journal.proofs.enter_cells.Tie as tie
 
 abbrev Inv-loop : tie.InvT-loop
-Inv-loop old new places₀ cells call n₀ k₀ places n k =
-    (k ≤ cells) × (n ≤ k) × (n ≡ length (changed call k 0 old new)) × (length places ≡ length places₀) × (places ≡ over places₀ (changed call k 0 old new))
+Inv-loop old new places₀ cells call n₀ k₀ places n k = Walked call 0 old new places₀ cells k n places
 
 abbrev μ-loop : tie.MeasureT-loop
 μ-loop old new places₀ cells call n₀ k₀ places n k = cells - k
 
 loop-holds : tie.Need-loop-holds Inv-loop μ-loop
-loop-holds c =
-    let a = c .before .before .before .args in
-    let e = none-changed (a .call) 0 (a .old .now) (a .new .now) in
-    (omega arith, omega arith, ap length (sym e), refl, sym (over-none (a .places .now)) ∙ ap (over (a .places .now)) (sym e))
+loop-holds c = let a = c .before .before .before .args in walk-starts (a .call) 0 (a .old .now) (a .new .now) (a .places .now) (a .cells)
 
 add-loop : tie.Need-add-loop Inv-loop μ-loop
 add-loop c = let p = c .before .before .before .before .pre .numbered in omega arith
@@ -115,18 +108,14 @@ loop-again : tie.Need-loop-again Inv-loop μ-loop
 loop-again c =
     let start = c .before .before .before .before .before .before .before .before .before .before .before .before .before .before .before .before in
     let a = start .args in
-    let p = start .pre in
+    let o = start .pre .long-old in
     let l = c .before .before .before .before .before .before .before .before .before .before .before .before .loop in
-    let o = p .long-old in
     let place = c .before .before .before .before .before .before .place-at in
-    let at = place .result in
-    let ys = c .before .before .enter-stretch .last .1 .1 .0 in
-    let v = 16 * l .k + 256 - 16 * l .k in
-    let m : v ≡ 16 * 16 = omega arith in
-    let found = stretch-found (a .call) (a .old .now) (a .new .now) (a .places .now) (l .places) ys (l .k) 16 (l .n) (c .before .before .enter-stretch .result) at v v
-    (p .called .0) (omega arith) (l .inv .2) (l .inv .4) (place .ensures .0) m m (c .before .before .enter-stretch .ensures) in
-    let few = changed-few (a .call) (l .k + 16) 0 (a .old .now) (a .new .now) in
-    (omega arith, omega (arith, found .0, few), found .0, same-len-mid at (length (l .places) - at) (l .places) ys (c .before .before .enter-stretch .kept .1 .1 .0) ∙ l .inv .3, found .1)
+    let last = c .before .before .enter-stretch in
+    let u = 16 * l .k + 256 - 16 * l .k in
+    let m : u ≡ 16 * 16 = omega arith in
+    stretch-found (a .call) (a .old .now) (a .new .now) (a .places .now) (l .places) (a .cells) (l .k) 16 (l .n) (l .inv) (omega arith) (last .last .1 .1 .0) (last .result) (place .result) u u
+    (start .pre .called .0) (omega arith) (place .ensures .0) m m (last .ensures)
 
 loop-less-2 : tie.Need-loop-less-2 Inv-loop μ-loop
 loop-less-2 c = search needs
@@ -138,8 +127,7 @@ loop-again-2 c =
     let same = c .before .same-words in
     let m : 16 * l .k + 256 - 16 * l .k ≡ 16 * 16 = omega arith in
     let e = rw m at (sym (same .ensures)) ∙ not-false (same .result) (c .if1 .left) in
-    let s = sym (stretch-same (a .call) (a .old .now) (a .new .now) (l .k) 16 e) in
-    (omega arith, omega arith, l .inv .2 ∙ ap length s, l .inv .3, l .inv .4 ∙ ap (over (a .places .now)) s)
+    stretch-same (a .call) (a .old .now) (a .new .now) (a .places .now) (l .places) (a .cells) (l .k) 16 (l .n) (l .inv) (omega arith) e
 
 mul-from-2 : tie.Need-mul-from-2 Inv-loop μ-loop
 mul-from-2 c = search needs
@@ -200,19 +188,16 @@ returns : tie.Need-returns Inv-loop μ-loop
 returns c =
     let start = c .before .before .before .before .before .before .before .before .before .before .before .before in
     let a = start .args in
-    let p = start .pre in
+    let o = start .pre .long-old in
+    let w = start .pre .long-new in
     let l = c .before .before .before .before .before .before .before .before .loop in
-    let o = p .long-old in
-    let w = p .long-new in
-    let k : l .k + (a .cells - l .k) ≡ a .cells = omega arith in
-    let s = ap (λ i. changed (a .call) i 0 (a .old .now) (a .new .now)) k in
     let place = c .before .before .before .before .before .before .place-at2 in
     let last = c .before .before .enter-stretch2 in
-    let found = stretch-found (a .call) (a .old .now) (a .new .now) (a .places .now) (l .places) (last .last .1 .1 .0) (l .k) (a .cells - l .k) (l .n) (last .result) (place .result)
-    (length (a .old .now) - 16 * l .k) (length (a .new .now) - 16 * l .k) (p .called .0) (omega arith) (l .inv .2) (l .inv .4)
-    (place .ensures .0) (omega arith) (omega arith) (last .ensures) in
+    let m = a .cells - l .k in
+    let found = stretch-found (a .call) (a .old .now) (a .new .now) (a .places .now) (l .places) (a .cells) (l .k) m (l .n) (l .inv) (omega arith) (last .last .1 .1 .0) (last .result) (place .result)
+    (length (a .old .now) - 16 * l .k) (length (a .new .now) - 16 * l .k) (start .pre .called .0) (omega arith) (place .ensures .0) (omega arith) (omega arith) (last .ensures) in
     record {
-      found = record { counted = found .0 ∙ ap length s; written = found .1 ∙ ap (over (a .places .now)) s };
+      found = walk-ends (a .call) 0 (a .old .now) (a .new .now) (a .places .now) _ (a .cells) (l .k + m) (l .n + last .result) found (omega arith);
       exact = exact (a .call) (a .cells) (a .old .now) (a .new .now) (omega arith) (omega arith);
     }
 

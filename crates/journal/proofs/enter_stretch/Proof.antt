@@ -1,29 +1,22 @@
--- `journal::enter_stretch`: after k cells the changed ones of the first k are counted, and their entries written as far as there are places.
-use mathlib.Core.Path.{_≡_, refl, sym, ap, _∙_}
-use Prim.Native.Nat.{_≤_, _+_, _*_, _-_}
+-- `journal::enter_stretch`: a walk over the cells.
+use mathlib.Core.Path.{_≡_, sym, _∙_}
+use Prim.Native.Nat.{_+_, _*_, _-_}
 use native.Mathlib.Omega.{arith}
-use lib.ListN.{length-take, length-drop, length}
-use borrow.Rule.Slice.PartMut.{same-len-mid}
+use lib.ListN.{length-take, length-drop}
 use borrow.Author.Tests.{not-true, not-false}
 use borrow.Author.Needs.{needs}
-use Rattle.journal.specs.Journal.{changed}
-use Rattle.journal.specs.Parts.{over}
-use Rattle.journal.proofs.Stretches.{none-changed, over-none, cell-same, cell-counted, cell-full, cell-writes}
+use Rattle.journal.proofs.Stretches.{Walked, walk-starts, walk-ends, walk-same, walk-full, walk-writes}
 use Rattle.journal.proofs.enter_stretch.Statement.{statement}
 use Rattle.journal.proofs.enter_stretch.Tie as tie
 
 abbrev Inv-loop : tie.InvT-loop
-Inv-loop old new places₀ cells first call n₀ k₀ places n k =
-    (k ≤ cells) × (n ≤ k) × (n ≡ length (changed call k first old new)) × (length places ≡ length places₀) × (places ≡ over places₀ (changed call k first old new))
+Inv-loop old new places₀ cells first call n₀ k₀ places n k = Walked call first old new places₀ cells k n places
 
 abbrev μ-loop : tie.MeasureT-loop
 μ-loop old new places₀ cells first call n₀ k₀ places n k = cells - k
 
 loop-holds : tie.Need-loop-holds Inv-loop μ-loop
-loop-holds c =
-    let a = c .before .before .before .args in
-    let e = none-changed (a .call) (a .first) (a .old .now) (a .new .now) in
-    (omega arith, omega arith, ap length (sym e), refl, sym (over-none (a .places .now)) ∙ ap (over (a .places .now)) (sym e))
+loop-holds c = let a = c .before .before .before .args in walk-starts (a .call) (a .first) (a .old .now) (a .new .now) (a .places .now) (a .cells)
 
 add-k : tie.Need-add-k Inv-loop μ-loop
 add-k c = search needs
@@ -95,38 +88,24 @@ loop-again : tie.Need-loop-again Inv-loop μ-loop
 loop-again c =
     let start = c .before .before .before .before .before .before .before .before .before .before .before .before .before in
     let a = start .args in
-    let p = start .pre in
+    let o = start .pre .long-old in
     let l = c .before .before .before .before .before .before .before .before .before .loop in
     let same = c .before .before .before .before .before .before .before .same-cell in
-    let e = sym (same .ensures) ∙ not-true (same .result) (c .before .before .before .before .before .before .if1 .taken) in
     let m : 16 * l .k + 16 - 16 * l .k ≡ 16 = omega arith in
-    let o = p .long-old in
-    let ys = c .before .before .put-entry .last .0 in (
-      omega arith,
-      omega arith,
-      cell-counted (a .call) (a .first) (a .old .now) (a .new .now) (l .k) (l .n) (l .inv .2) e,
-      same-len-mid (24 * l .n) (24 * l .n + 24 - 24 * l .n) (l .places) ys (c .before .before .put-entry .kept .0) ∙ l .inv .3,
-      cell-writes (a .call) (a .first) (a .old .now) (a .new .now) (a .places .now) (l .places) ys (l .k) (l .n) (p .called .0) (omega arith) (l .inv .2) (omega arith) e (l .inv .4)
-          (rw m at (c .before .before .put-entry .ensures)),
-    )
+    let e = sym (same .ensures) ∙ not-true (same .result) (c .before .before .before .before .before .before .if1 .taken) in
+    walk-writes (a .call) (a .first) (a .old .now) (a .new .now) (a .places .now) (l .places) (a .cells) (l .k) (l .n) (l .inv) (omega arith) (c .before .before .put-entry .last .0) e (omega arith) (start .pre .called .0) (omega arith)
+    (rw m at (c .before .before .put-entry .ensures))
 
 loop-less-2 : tie.Need-loop-less-2 Inv-loop μ-loop
 loop-less-2 c = search needs
 
 loop-again-2 : tie.Need-loop-again-2 Inv-loop μ-loop
 loop-again-2 c =
-    let start = c .before .before .before .before .before .before .before .before in
-    let a = start .args in
+    let a = c .before .before .before .before .before .before .before .before .args in
     let l = c .before .before .before .before .loop in
     let same = c .before .before .same-cell in
     let e = sym (same .ensures) ∙ not-true (same .result) (c .before .if1 .taken) in
-    let i = l .inv .3 in (
-      omega arith,
-      omega arith,
-      cell-counted (a .call) (a .first) (a .old .now) (a .new .now) (l .k) (l .n) (l .inv .2) e,
-      i,
-      l .inv .4 ∙ cell-full (a .call) (a .first) (a .old .now) (a .new .now) (a .places .now) (l .k) (l .n) (l .inv .2) (omega arith) e,
-    )
+    walk-full (a .call) (a .first) (a .old .now) (a .new .now) (a .places .now) (l .places) (a .cells) (l .k) (l .n) (l .inv) (omega arith) e (omega arith)
 
 loop-less-3 : tie.Need-loop-less-3 Inv-loop μ-loop
 loop-less-3 c = search needs
@@ -137,8 +116,7 @@ loop-again-3 c =
     let l = c .before .before .before .loop in
     let same = c .before .same-cell in
     let e = sym (same .ensures) ∙ not-false (same .result) (c .if1 .left) in
-    let s = sym (cell-same (a .call) (a .first) (a .old .now) (a .new .now) (l .k) e) in
-    (omega arith, omega arith, l .inv .2 ∙ ap length s, l .inv .3, l .inv .4 ∙ ap (over (a .places .now)) s)
+    walk-same (a .call) (a .first) (a .old .now) (a .new .now) (a .places .now) (l .places) (a .cells) (l .k) (l .n) (l .inv) (omega arith) e
 
 same-length : tie.Need-same-length Inv-loop μ-loop
 same-length c = search needs
@@ -147,9 +125,7 @@ returns : tie.Need-returns Inv-loop μ-loop
 returns c =
     let a = c .before .before .before .before .before .args in
     let l = c .before .loop in
-    let k : l .k ≡ a .cells = omega arith in
-    let s = ap (λ i. changed (a .call) i (a .first) (a .old .now) (a .new .now)) k in
-    record { counted = l .inv .2 ∙ ap length s; written = l .inv .4 ∙ ap (over (a .places .now)) s }
+    walk-ends (a .call) (a .first) (a .old .now) (a .new .now) (a .places .now) (l .places) (a .cells) (l .k) (l .n) (l .inv) (omega arith)
 
 pub enter-stretch-spec : {M : Type 1} → statement M
 enter-stretch-spec =

@@ -1,31 +1,24 @@
--- `journal_bench::enter_cells_by_bytes`: as `journal::enter_stretch`, over whole images, with the bytes of each cell compared.
-use mathlib.Core.Path.{_≡_, refl, sym, ap, _∙_}
-use Prim.Native.Nat.{_≤_, _+_, _*_, _-_}
+-- `journal_bench::enter_cells_by_bytes`: a walk over the cells of whole images, with the bytes of each cell compared.
+use mathlib.Core.Path.{_≡_, sym, _∙_}
+use Prim.Native.Nat.{_+_, _*_, _-_}
 use native.Mathlib.Nat.{zero-add}
 use native.Mathlib.Omega.{arith}
-use lib.ListN.{length-take, length-drop, length}
-use borrow.Rule.Slice.PartMut.{same-len-mid}
+use lib.ListN.{length-take, length-drop}
 use borrow.Author.Tests.{not-true, not-false}
 use borrow.Author.Needs.{needs}
-use Rattle.journal.specs.Journal.{changed}
-use Rattle.journal.specs.Parts.{over}
 use Rattle.journal.proofs.Exact.{exact}
-use Rattle.journal.proofs.Stretches.{none-changed, over-none, cell-same, cell-counted, cell-full, cell-writes}
+use Rattle.journal.proofs.Stretches.{Walked, walk-starts, walk-ends, walk-same, walk-full, walk-writes}
 use Rattle.journal_bench.proofs.enter_cells_by_bytes.Statement.{statement}
 use Rattle.journal_bench.proofs.enter_cells_by_bytes.Tie as tie
 
 abbrev Inv-loop : tie.InvT-loop
-Inv-loop old new places₀ cells call n₀ k₀ places n k =
-    (k ≤ cells) × (n ≤ k) × (n ≡ length (changed call k 0 old new)) × (length places ≡ length places₀) × (places ≡ over places₀ (changed call k 0 old new))
+Inv-loop old new places₀ cells call n₀ k₀ places n k = Walked call 0 old new places₀ cells k n places
 
 abbrev μ-loop : tie.MeasureT-loop
 μ-loop old new places₀ cells call n₀ k₀ places n k = cells - k
 
 loop-holds : tie.Need-loop-holds Inv-loop μ-loop
-loop-holds c =
-    let a = c .before .before .before .args in
-    let e = none-changed (a .call) 0 (a .old .now) (a .new .now) in
-    (omega arith, omega arith, ap length (sym e), refl, sym (over-none (a .places .now)) ∙ ap (over (a .places .now)) (sym e))
+loop-holds c = let a = c .before .before .before .args in walk-starts (a .call) 0 (a .old .now) (a .new .now) (a .places .now) (a .cells)
 
 add-k : tie.Need-add-k Inv-loop μ-loop
 add-k c = search needs
@@ -111,20 +104,13 @@ loop-again : tie.Need-loop-again Inv-loop μ-loop
 loop-again c =
     let start = c .before .before .before .before .before .before .before .before .before .before .before .before .before .before .before in
     let a = start .args in
-    let p = start .pre in
+    let o = start .pre .long-old in
     let l = c .before .before .before .before .before .before .before .before .before .before .before .loop in
     let same = c .before .before .before .before .before .before .before .same-bytes in
     let m : 16 * l .k + 16 - 16 * l .k ≡ 16 = omega arith in
     let e = rw m at (sym (same .ensures)) ∙ not-true (same .result) (c .before .before .before .before .before .before .if1 .taken) in
-    let o = p .long-old in
-    let ys = c .before .before .put-entry .last .0 in (
-      omega arith,
-      omega arith,
-      cell-counted (a .call) 0 (a .old .now) (a .new .now) (l .k) (l .n) (l .inv .2) e,
-      same-len-mid (24 * l .n) (24 * l .n + 24 - 24 * l .n) (l .places) ys (c .before .before .put-entry .kept .0) ∙ l .inv .3,
-      cell-writes (a .call) 0 (a .old .now) (a .new .now) (a .places .now) (l .places) ys (l .k) (l .n) (p .called .0) (omega arith) (l .inv .2) (omega arith) e (l .inv .4)
-          (rw (zero-add (l .k)) (rw m at (c .before .before .put-entry .ensures))),
-    )
+    walk-writes (a .call) 0 (a .old .now) (a .new .now) (a .places .now) (l .places) (a .cells) (l .k) (l .n) (l .inv) (omega arith) (c .before .before .put-entry .last .0) e (omega arith) (start .pre .called .0) (omega arith)
+    (rw (zero-add (l .k)) (rw m at (c .before .before .put-entry .ensures)))
 
 loop-less-2 : tie.Need-loop-less-2 Inv-loop μ-loop
 loop-less-2 c = search needs
@@ -136,13 +122,7 @@ loop-again-2 c =
     let same = c .before .before .same-bytes in
     let m : 16 * l .k + 16 - 16 * l .k ≡ 16 = omega arith in
     let e = rw m at (sym (same .ensures)) ∙ not-true (same .result) (c .before .if1 .taken) in
-    let i = l .inv .3 in (
-      omega arith,
-      omega arith,
-      cell-counted (a .call) 0 (a .old .now) (a .new .now) (l .k) (l .n) (l .inv .2) e,
-      i,
-      l .inv .4 ∙ cell-full (a .call) 0 (a .old .now) (a .new .now) (a .places .now) (l .k) (l .n) (l .inv .2) (omega arith) e,
-    )
+    walk-full (a .call) 0 (a .old .now) (a .new .now) (a .places .now) (l .places) (a .cells) (l .k) (l .n) (l .inv) (omega arith) e (omega arith)
 
 loop-less-3 : tie.Need-loop-less-3 Inv-loop μ-loop
 loop-less-3 c = search needs
@@ -154,8 +134,7 @@ loop-again-3 c =
     let same = c .before .same-bytes in
     let m : 16 * l .k + 16 - 16 * l .k ≡ 16 = omega arith in
     let e = rw m at (sym (same .ensures)) ∙ not-false (same .result) (c .if1 .left) in
-    let s = sym (cell-same (a .call) 0 (a .old .now) (a .new .now) (l .k) e) in
-    (omega arith, omega arith, l .inv .2 ∙ ap length s, l .inv .3, l .inv .4 ∙ ap (over (a .places .now)) s)
+    walk-same (a .call) 0 (a .old .now) (a .new .now) (a .places .now) (l .places) (a .cells) (l .k) (l .n) (l .inv) (omega arith) e
 
 same-length : tie.Need-same-length Inv-loop μ-loop
 same-length c = search needs
@@ -167,10 +146,8 @@ returns c =
     let o = start .pre .long-old in
     let n = start .pre .long-new in
     let l = c .before .loop in
-    let k : l .k ≡ a .cells = omega arith in
-    let s = ap (λ i. changed (a .call) i 0 (a .old .now) (a .new .now)) k in
     record {
-      found = record { counted = l .inv .2 ∙ ap length s; written = l .inv .4 ∙ ap (over (a .places .now)) s };
+      found = walk-ends (a .call) 0 (a .old .now) (a .new .now) (a .places .now) (l .places) (a .cells) (l .k) (l .n) (l .inv) (omega arith);
       exact = exact (a .call) (a .cells) (a .old .now) (a .new .now) (omega arith) (omega arith);
     }
 
