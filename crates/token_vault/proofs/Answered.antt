@@ -17,24 +17,31 @@ use Rattle.record.specs.Form.{formNumber}
 use Rattle.image.specs.Layout.{cells}
 use Rattle.image.specs.Good.{goodImage}
 use Rattle.fields.specs.Rules.{pick, verdict-in, chain-in}
-use Rattle.token_vault.specs.Vault.{outcomeOf, callNumber, byForm, op, view, vaultStep}
-use Rattle.token_vault.specs.Demand.{isOwn, isCommon, leavesBuffer, bufferAfter, Refused, SameCall, Demand1}
-use Rattle.token_vault.proofs.Owed.{form-zero}
-use Rattle.token_vault.proofs.Numbers.{outcome-own}
+use Rattle.token_vault.specs.Vault.{callNumber, byForm, op, view, vaultStep}
+use Rattle.token_vault.specs.Demand.{isCommon, leavesBuffer, bufferAfter, Refused, SameCall, Demand1}
+use Rattle.operations.specs.Operations.{isOwn, outcomeOf}
+use Rattle.operations.proofs.Numbers.{outcome-own}
+use Rattle.token_vault.proofs.Accepted.{form-zero}
 
 -- ---- numbers
 abbrev isAnswer : ℕ → Bool
 isAnswer n = isOwn n || isCommon n
 
-abbrev isForm : ℕ → Bool
-isForm n = eqb n 0 || leavesBuffer n
+-- 0, 32 and 33
+abbrev pub isForm : ℕ → Bool
+isForm n = eqb n 0 || (eqb n 32 || eqb n 33)
 
-call-form : (r e : List ℕ) → isForm (callNumber r e) ≡ true
+pub call-form : (r e : List ℕ) → isForm (callNumber r e) ≡ true
 unfolding callNumber formNumber bufferNumber
 call-form r e = chain-in isForm _ (verdict-in isForm _ refl, (verdict-in isForm _ refl, refl))
 
-form-buffer : (k : ℕ) → isForm (suc k) ≡ true → leavesBuffer (suc k) ≡ true
-form-buffer k e = rw (ne-eqb (suc k) 0 (λ z. omega arith)) at e
+pub form-buffer : (k : ℕ) → isForm (suc k) ≡ true → leavesBuffer (suc k) ≡ true
+form-buffer k e = go (eqb (suc k) 32) (eqb (suc k) 33) refl refl (rw (ne-eqb (suc k) 0 (λ z. omega arith)) at e)
+  where
+    go : (a b : Bool) → eqb (suc k) 32 ≡ a → eqb (suc k) 33 ≡ b → a || b ≡ true → leavesBuffer (suc k) ≡ true
+    go true b p q t = rw (eqb-true (suc k) 32 p)
+    go false true p q t = rw (eqb-true (suc k) 33 q)
+    go false false p q t = let w : _≡_ {A = ℕ} 0 1 = cc in absurd (omega arith)
 
 own-answer : (n : ℕ) → isOwn n ≡ true → isAnswer n ≡ true
 own-answer n e = rw e
@@ -42,7 +49,7 @@ own-answer n e = rw e
 own-blanks : (n : ℕ) → isOwn n ≡ true → leavesBuffer n ≡ false
 own-blanks n e = let h : n < 24 = ltb-true n 24 e in let g : n ≤ 29 = omega arith in rw (le-ltb 29 n g)
 
-or-right : (a b : Bool) → b ≡ true → a || b ≡ true
+pub or-right : (a b : Bool) → b ≡ true → a || b ≡ true
 or-right true b e = refl
 or-right false b e = e
 
@@ -144,11 +151,11 @@ closed-outcome true false f l z j d = refl
 
 module _ (l r e : List ℕ) where
   -- an operation at a closed journal: its answer, and the image that it leaves
-  atClosed : Bool → Answer × List ℕ
+  unfoldable pub atClosed : Bool → Answer × List ℕ
   atClosed true = (op l r e .answer, pick (eqb (op l r e .answer .number) 0) (pick (view r) l (op l r e .image)) l)
   atClosed false = (record { number = 30; value = 0; count = 0; events = e }, l)
 
-  closed-is : (n : ℕ) → fits n ≡ true → vaultStep (vault l (replicate n 0)) (operation r e) ≡ record { answer = atClosed (goodImage l) .0; state = vault (atClosed (goodImage l) .1) (replicate n 0) }
+  pub closed-is : (n : ℕ) → fits n ≡ true → vaultStep (vault l (replicate n 0)) (operation r e) ≡ record { answer = atClosed (goodImage l) .0; state = vault (atClosed (goodImage l) .1) (replicate n 0) }
   unfolding vaultStep atClosed operated
   closed-is n f = go (goodImage l) refl
     where

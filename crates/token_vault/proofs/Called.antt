@@ -2,7 +2,7 @@
 use mathlib.Core.Path.{_≡_, refl, sym, ap, _∙_}
 use mathlib.Core.Bool.{Bool, true, false}
 use mathlib.Core.List.{List, [], append-nil}
-use Prim.Native.Nat.{ℕ, zero, suc, _+_, _≤_}
+use Prim.Native.Nat.{ℕ, zero, suc, _+_}
 use native.Mathlib.Nat.{add-zero}
 use native.Mathlib.Decide.{ℕ-discrete}
 use native.Mathlib.Omega.{arith}
@@ -13,22 +13,20 @@ use Rattle.journal.proofs.Dispatch.{operated-refused, operated-view, operated-c
 use Rattle.outcome.specs.declared.Answer.{Answer}
 use Rattle.journal.specs.Parts.{Enters}
 use Rattle.journal.specs.Step.{vault, reply, blank, lent, operated, begun, committed, rolledBack, undone, step}
-use Rattle.views.specs.Views.{balanceOutcome, effectiveOutcome, accountOutcome, approvedOutcome, compliantOutcome}
-use Rattle.moves.specs.Outside.{freezeOutcome}
-use Rattle.setup.specs.Setup.{initialize}
-use Rattle.outcome.specs.Outcome.{Outcome, Does, Views}
+use Rattle.outcome.specs.Outcome.{Does, Views}
 use Rattle.events.specs.Event.{eventBuffer, bufferNumber}
 use Rattle.events.specs.Buffer.{buffer-none}
 use Rattle.events.specs.Splice.{amountBytes, splice, length-amountBytes, putAmount-splice}
-use Rattle.record.specs.Form.{member, isView, formNumber}
+use Rattle.record.specs.Form.{isView, formNumber}
 use Rattle.record.specs.Record.{operationOf}
 use Rattle.image.specs.Layout.{cells}
 use Rattle.image.specs.Good.{goodImage}
 use Rattle.amount.specs.Biased.{bias, biased, putAmount}
 use Rattle.fields.specs.Rules.{pick, link-at}
-use Rattle.token_vault.proofs.Owed.{chosen, operations-consecutive}
+use Rattle.operations.specs.Operations.{outcomeOf}
+use Rattle.operations.proofs.Silent.{view-silent}
 use Rattle.token_vault.specs.Public.{CallIs, CallAlone, JournalIs, Replies, Answers, Tries, stateNumber, keptNumber, keptImage, keptJournal, Keeps}
-use Rattle.token_vault.specs.Vault.{operations, outcomeOf, callNumber, byNumber, byForm, op, view, vaultStep}
+use Rattle.token_vault.specs.Vault.{callNumber, byNumber, byForm, op, view, vaultStep}
 
 -- ---- bytes
 pub value-bytes : (n : ℕ) → putAmount (replicate 16 0) 0 n ≡ amountBytes n
@@ -48,9 +46,17 @@ pub form-refused : (r e : List ℕ) {j : ℕ} → j ≡ formNumber r → (j ≡ 
 unfolding callNumber
 form-refused r e p z = link-at _ 0 _ (omega arith) p
 
-pub buffer-refused : (r e : List ℕ) {j k : ℕ} → j ≡ formNumber r → j ≡ 0 → k ≡ bufferNumber e → (k ≡ 0 → ⊥) → k ≡ callNumber r e
+buffer-refused : (r e : List ℕ) {j k : ℕ} → j ≡ formNumber r → j ≡ 0 → k ≡ bufferNumber e → (k ≡ 0 → ⊥) → k ≡ callNumber r e
 unfolding callNumber
 buffer-refused r e p y q z = link-at _ 1 _ (omega arith) q
+
+-- where 32 is not answered 33 decides
+pub buffer-decides : (r e : List ℕ) {j k : ℕ} → j ≡ formNumber r → j ≡ 0 → k ≡ bufferNumber e → k ≡ callNumber r e
+buffer-decides r e {j} {k} p y q = go (ℕ-discrete k 0)
+  where
+    go : Dec (k ≡ 0) → k ≡ callNumber r e
+    go (yes z) = z ∙ sym (form-passed r e p y q z)
+    go (no n) = buffer-refused r e p y q n
 
 pub malformed : (l r e : List ℕ) {k : ℕ} → k ≡ callNumber r e → (k ≡ 0 → ⊥) → op l r e .answer ≡ record { number = k; value = 0; count = 0; events = e }
 unfolding op
@@ -60,107 +66,9 @@ malformed l r e {k} p z = go (callNumber r e) refl
     go zero q = absurd (z (p ∙ q))
     go (suc n) q = rw (p, q)
 
--- ---- what a view leaves
-view-number : (o : ℕ) → isView o ≡ true → 1 ≤ o
-unfolding isView member
-view-number zero v = let w : _≡_ {A = ℕ} 0 1 = cc in absurd (omega arith)
-view-number (suc o) v = omega arith
-
-module _ (l r : List ℕ) where
-  pub view-silent : isView (operationOf r) ≡ true → outcomeOf l r .events ≡ []
-  unfolding outcomeOf balanceOutcome effectiveOutcome accountOutcome approvedOutcome compliantOutcome freezeOutcome isView member
-  view-silent v =
-      chosen (λ (x : Outcome). x .events ≡ []) (operationOf r) (1, initialize l r) (operations l r) (view-number (operationOf r) v) (operations-consecutive l r) (
-        λ o. absurd (no-op 1 o refl),
-        (
-          λ o. absurd (no-op 2 o refl),
-          (
-            λ o. absurd (no-op 3 o refl),
-            (
-              λ o. absurd (no-op 4 o refl),
-              (
-                λ o. absurd (no-op 5 o refl),
-                (
-                  λ o. absurd (no-op 6 o refl),
-                  (
-                    λ o. absurd (no-op 7 o refl),
-                    (
-                      λ o. absurd (no-op 8 o refl),
-                      (
-                        λ o. absurd (no-op 9 o refl),
-                        (
-                          λ o. absurd (no-op 10 o refl),
-                          (
-                            λ o. absurd (no-op 11 o refl),
-                            (
-                              λ o. absurd (no-op 12 o refl),
-                              (
-                                λ o. absurd (no-op 13 o refl),
-                                (
-                                  λ o. absurd (no-op 14 o refl),
-                                  (
-                                    λ o. absurd (no-op 15 o refl),
-                                    (
-                                      λ o. absurd (no-op 16 o refl),
-                                      (
-                                        λ o. absurd (no-op 17 o refl),
-                                        (
-                                          λ o. absurd (no-op 18 o refl),
-                                          (
-                                            λ o. absurd (no-op 19 o refl),
-                                            (
-                                              λ o. absurd (no-op 20 o refl),
-                                              (
-                                                λ o. absurd (no-op 21 o refl),
-                                                (
-                                                  λ o. absurd (no-op 22 o refl),
-                                                  (
-                                                    λ o. absurd (no-op 23 o refl),
-                                                    (
-                                                      λ o. refl,
-                                                      (
-                                                        λ o. refl,
-                                                        (
-                                                          λ o. refl,
-                                                          (
-                                                            λ o. refl,
-                                                            (
-                                                              λ o. refl,
-                                                              (
-                                                                λ o. absurd (no-op 29 o refl),
-                                                                λ o. refl,
-                                                              ),
-                                                            ),
-                                                          ),
-                                                        ),
-                                                      ),
-                                                    ),
-                                                  ),
-                                                ),
-                                              ),
-                                            ),
-                                          ),
-                                        ),
-                                      ),
-                                    ),
-                                  ),
-                                ),
-                              ),
-                            ),
-                          ),
-                        ),
-                      ),
-                    ),
-                  ),
-                ),
-              ),
-            ),
-          ),
-        ),
-      )
-    where
-      no-op : (k : ℕ) → operationOf r ≡ k → isView k ≡ false → ⊥
-      no-op k o q = let z : true ≡ false = sym v ∙ (ap isView o ∙ q) in let w : _≡_ {A = ℕ} 0 1 = cc in omega arith
+-- whether it is a view, from what the two tests say
+pub view-decided : (r : List ℕ) {o : ℕ} {b t : Bool} → o ≡ operationOf r → b ≡ isView o → b ≡ t → isView (operationOf r) ≡ t
+view-decided r p q z = sym (ap isView p) ∙ (sym q ∙ z)
 
 -- ---- the operation's own number
 module _ (l r e : List ℕ) (z : callNumber r e ≡ 0) where
@@ -310,7 +218,7 @@ module _ (l j : List ℕ) {b : Bool} {k : ℕ} (g : b ≡ goodImage l) (p : k �
 
 module _ (l j r e : List ℕ) where
   module _ (g : goodImage l ≡ true) (h : goodJournal cells j ≡ true) where
-    steps : vaultStep (vault l j) (operation r e) ≡ operated cells (view r) (vault l j) (op l r e)
+    pub steps : vaultStep (vault l j) (operation r e) ≡ operated cells (view r) (vault l j) (op l r e)
     unfolding vaultStep
     steps = step-operation cells goodImage op view (vault l j) g h r e
 

@@ -28,8 +28,10 @@ use Rattle.history.proofs.Steps.{enters}
 use Rattle.history.proofs.Totals.{total-plus, total-minus}
 use Rattle.token_vault.specs.Demand.{enter, keptSum, Migrates, Demand3}
 use Rattle.token_vault.specs.Cells.{EntersCells}
-use Rattle.token_vault.specs.Vault.{outcomeOf, op, view, vaultStep}
-use Rattle.token_vault.proofs.Owed.{accepted-call, outcome-good, outcome-booked}
+use Rattle.token_vault.specs.Vault.{op, view, vaultStep}
+use Rattle.operations.specs.Operations.{outcomeOf}
+use Rattle.operations.proofs.Owed.{outcome-good, outcome-booked}
+use Rattle.token_vault.proofs.Accepted.{accepted-call}
 
 keeps : (l r e : List ℕ) → goodImage l ≡ true → op l r e .answer .number ≡ 0 → goodImage (op l r e .image) ≡ true
 keeps l r e h z =
@@ -37,6 +39,7 @@ keeps l r e h z =
     rw (a .left) (test (outcomeOf l r .image) (outcome-good l r (facts l h) (a .formed) (a .agreed)))
 
 moved : (b : Book) (l r e : List ℕ) → goodImage l ≡ true → op l r e .answer .number ≡ 0 → view r ≡ false → BookIs b l → BookIs (enter b r (op l r e .answer)) (op l r e .image)
+unfolding view
 moved b l r e h z v m =
     let a = accepted-call l r e z in
     rw (a .left, a .said) (outcome-booked l r (facts l h) (a .formed) b m v (a .agreed))

@@ -18,13 +18,10 @@ use Rattle.book.specs.Integers.{smaller}
 use Rattle.record.specs.Record.{operationOf}
 use Rattle.image.specs.Layout.{cells, defaultToken, destination}
 use Rattle.image.specs.Good.{goodImage}
+use Rattle.operations.specs.Operations.{isOwn}
 use Rattle.token_vault.specs.Vault.{view, vaultStep}
 
 -- ---- demand 1
--- 0 done, and the refusals that are an operation's own
-abbrev pub isOwn : ℕ → Bool
-isOwn n = ltb n 24
-
 -- the refusals of every call: 30 to 33 and 34; of the journal's calls: 35 to 37
 abbrev pub isCommon : ℕ → Bool
 isCommon n = ltb 29 n && ltb n 38

@@ -1,73 +1,22 @@
 // The token vault: its public calls. Any bytes of any length get an answer.
-use amount::Amount;
 use outcome::Answer;
 ghost use mathlib.Core.Path.{_≡_};
 ghost use mathlib.Core.Bool.{true, false};
-ghost use mathlib.Core.List.{[]};
 ghost use lib.ListN.{length};
 ghost use Rattle.amount.specs.Biased.{bias, biased};
 ghost use Rattle.events.specs.Splice.{amountBytes};
 ghost use Rattle.image.specs.Layout.{imageLength, cells};
 ghost use Rattle.storage.specs.Facts.{Good};
 ghost use Rattle.record.specs.Record.{operationOf};
-ghost use Rattle.record.specs.Form.{formNumber, isView};
-ghost use Rattle.events.specs.Event.{eventBuffer};
-ghost use Rattle.outcome.specs.Outcome.{Does, Views};
+ghost use Rattle.record.specs.Form.{isView};
 ghost use Rattle.journal.specs.Calls.{Call};
 ghost use Rattle.journal.specs.Journal.{goodJournal};
 ghost use Rattle.journal.specs.Step.{vault, operated};
-ghost use Rattle.token_vault.specs.Vault.{outcomeOf, callNumber, op, vaultStep};
+ghost use Rattle.token_vault.specs.Vault.{callNumber, op, vaultStep};
 ghost use Rattle.token_vault.specs.Demand.{Demand1, Demand3};
 ghost use Rattle.token_vault.specs.Cells.{EntersCells};
+ghost use Rattle.token_vault.specs.Preview.{previewAnswer, PreviewIs, Previews};
 ghost use Rattle.token_vault.specs.Public.{CallIs, CallAlone, closedJournal, JournalIs, Replies, Answers, Tries, stateNumber, keptNumber, keptJournal, Keeps};
-
-fn operate(img: &mut [u8], rec: &[u8], events: &mut [u8]) -> Answer
-    requires { ⌜ Good (now img) × (formNumber (now rec) ≡ 0) × (isView (operationOf (now rec)) ≡ false) × (now events ≡ eventBuffer []) × (length (now rec) ≡ 448) ⌝ }
-    ensures { λ r. ⌜ Does (outcomeOf (now (img .entry)) (now (rec .entry))) r (now (img .exit)) (now (events .exit)) ⌝ }
-{
-    let o = record::operation(rec);
-    match o {
-        1 => setup::initialize(img, rec, events),
-        2 => deposits::deposit(img, rec, events),
-        3 => deposits::deposit_with_fee(img, rec, events),
-        4 => batch_deposits::batch_deposit(img, rec, events),
-        5 => payouts::withdraw(img, rec, events),
-        6 => payouts::withdraw_batch(img, rec, events),
-        7 => deposits::deposit_token(img, rec, events),
-        8 => payouts::withdraw_token(img, rec, events),
-        9 => deposits::deposit_with_failure_report(img, rec, events),
-        10 => settings::set_operator_withdraw_limit(img, rec, events),
-        11 => settings::set_limit(img, rec, events),
-        12 => settings::set_token_max_limit(img, rec, events),
-        13 => settings::set_operator(img, rec, events),
-        14 => settings::revoke_operator(img, rec, events),
-        15 => handover::propose_owner(img, rec, events),
-        16 => handover::accept_owner(img, rec, events),
-        17 => handover::set_owner_proposal_ttl(img, rec, events),
-        18 => settings::pause(img, rec, events),
-        19 => settings::unpause(img, rec, events),
-        20 => setup::approve_token(img, rec, events),
-        21 => migration::initiate_emergency_migration(img, rec, events),
-        22 => migration::execute_emergency_migration(img, rec, events),
-        23 => migration::cancel_emergency_migration(img, rec, events),
-        29 => moves::outside_move(img, rec, events),
-        _ => moves::freeze(img, rec, events),
-    }
-}
-
-fn look(img: &[u8], rec: &[u8]) -> Answer
-    requires { ⌜ Good (now img) × (formNumber (now rec) ≡ 0) × (isView (operationOf (now rec)) ≡ true) × (length (now rec) ≡ 448) ⌝ }
-    ensures { λ r. ⌜ Views (outcomeOf (now (img .entry)) (now (rec .entry))) r ⌝ }
-{
-    let o = record::operation(rec);
-    match o {
-        24 => views::balance(img, rec),
-        25 => views::effective_withdraw_limit(img, rec),
-        26 => views::get_token_account_balance(img, rec),
-        27 => views::is_token_approved(img, rec),
-        _ => views::is_token_compliant(img, rec),
-    }
-}
 
 fn refusal(number: u8) -> Answer
     ensures { λ r. ⌜ (r .number ≡ number) × (biased (r .value) ≡ bias) × (r .events ≡ 0) ⌝ }
@@ -79,13 +28,15 @@ fn refusal(number: u8) -> Answer
     }
 }
 
-// The sixteen bytes of a value.
-fn write_value(value: &mut [u8; 16], v: Amount)
-    ensures { λ _. ⌜ now (value .exit) ≡ amountBytes (biased v) ⌝ }
+// An answer as the caller gets it: value and event count are written out, and the number is returned.
+fn write_answer(a: Answer, value: &mut [u8; 16], event_count: &mut u32) -> u32
+    ensures { λ r. ⌜ (r ≡ a .number) × (now (value .exit) ≡ amountBytes (biased (a .value))) × (now («event_count» .exit) ≡ a .events) ⌝ }
 {
     let mut bytes = [0u8; 16];
-    amount::write_amount(&mut bytes, 0, v);
+    amount::write_amount(&mut bytes, 0, a.value);
     *value = bytes;
+    *event_count = a.events as u32;
+    a.number as u32
 }
 
 // A view on good bytes: the event buffer is blank.
@@ -94,7 +45,7 @@ fn run_view(image: &[u8], rec: &[u8], events: &mut [u8]) -> Answer
     ensures { λ r. ⌜ Answers (op (now (image .entry)) (now (rec .entry)) (now (events .entry)) .answer) r (now (events .exit)) ⌝ }
 {
     events::clear_events(events);
-    let a = look(image, rec);
+    let a = operations::look(image, rec);
     let n = a.number;
     if n != 0 {
         return refusal(n);
@@ -108,7 +59,7 @@ fn try_operation(copy: &mut [u8], rec: &[u8], events: &mut [u8]) -> Answer
     ensures { λ r. ⌜ Tries (op (now (copy .entry)) (now (rec .entry)) (now (events .entry))) r (now (copy .exit)) (now (events .exit)) ⌝ }
 {
     events::clear_events(events);
-    let a = operate(copy, rec, events);
+    let a = operations::operate(copy, rec, events);
     let n = a.number;
     if n != 0 {
         events::clear_events(events);
@@ -175,6 +126,17 @@ fn state_check(is_image_good: bool, journal: &[u8]) -> u8
     0
 }
 
+// 32, 33.
+fn call_check(rec: &[u8], events: &[u8]) -> u8
+    ensures { λ r. ⌜ r ≡ callNumber (now (rec .entry)) (now (events .entry)) ⌝ }
+{
+    let k = record::form_check(rec);
+    if k != 0 {
+        return k;
+    }
+    events::buffer_check(events)
+}
+
 fn answer_call(image: &mut [u8], journal: &mut [u8], rec: &[u8], events: &mut [u8]) -> Answer
     ensures { λ r. ⌜ Replies (vaultStep (vault (now (image .entry)) (now (journal .entry))) (Call.operation (now (rec .entry)) (now (events .entry)))) r (now (events .exit)) (now (image .exit)) (now (journal .exit)) ⌝ }
 {
@@ -183,13 +145,9 @@ fn answer_call(image: &mut [u8], journal: &mut [u8], rec: &[u8], events: &mut [u
     if k1 != 0 {
         return refusal(k1);
     }
-    let k2 = record::form_check(rec);
+    let k2 = call_check(rec, events);
     if k2 != 0 {
         return refusal(k2);
-    }
-    let k3 = events::buffer_check(events);
-    if k3 != 0 {
-        return refusal(k3);
     }
     if record::is_view(record::operation(rec)) {
         return run_view(image, rec, events);
@@ -209,10 +167,7 @@ pub fn call(
     ensures { λ r. ⌜ CallIs (vaultStep (vault (now (image .entry)) (now (journal .entry))) (Call.operation (now («record» .entry)) (now (events .entry)))) r (now (value .exit)) (now («event_count» .exit)) (now (events .exit)) (now (image .exit)) (now (journal .exit)) ⌝ }
 {
     let a = answer_call(image, journal, record, events);
-    let v = a.value;
-    write_value(value, v);
-    *event_count = a.events as u32;
-    a.number as u32
+    write_answer(a, value, event_count)
 }
 
 // A call without a journal: as with a closed one of its own.
@@ -227,6 +182,47 @@ pub fn call_without_journal(
 {
     let mut journal = [0u8; 48];
     call(image, &mut journal, record, events, value, event_count)
+}
+
+// An operation that is no view, on a copy of the image.
+fn preview_operation(image: &[u8], rec: &[u8], events: &mut [u8]) -> Answer
+    requires { ⌜ Good (now image) × (callNumber (now rec) (now events) ≡ 0) × (isView (operationOf (now rec)) ≡ false) × (length (now rec) ≡ 448) × (length (now events) ≡ 896) ⌝ }
+    ensures { λ r. ⌜ Answers (op (now (image .entry)) (now (rec .entry)) (now (events .entry)) .answer) r (now (events .exit)) ⌝ }
+{
+    let mut copy = [0u8; 36832];
+    fields::copy_bytes(image, &mut copy);
+    try_operation(&mut copy, rec, events)
+}
+
+fn answer_preview(image: &[u8], rec: &[u8], events: &mut [u8]) -> Answer
+    ensures { λ r. ⌜ Answers (previewAnswer (now (image .entry)) (now (rec .entry)) (now (events .entry))) r (now (events .exit)) ⌝ }
+{
+    if !image::good_image(image) {
+        return refusal(30);
+    }
+    let k = call_check(rec, events);
+    if k != 0 {
+        return refusal(k);
+    }
+    let o = record::operation(rec);
+    if record::is_view(o) {
+        return run_view(image, rec, events);
+    }
+    preview_operation(image, rec, events)
+}
+
+// A preview: what a call without a journal would answer. The image is lent to read, and there is no journal.
+pub fn preview(
+    image: &[u8],
+    record: &[u8],
+    events: &mut [u8],
+    value: &mut [u8; 16],
+    event_count: &mut u32,
+) -> u32
+    ensures { λ r. ⌜ PreviewIs (previewAnswer (now (image .entry)) (now («record» .entry)) (now (events .entry))) r (now (value .exit)) (now («event_count» .exit)) (now (events .exit)) ⌝ }
+{
+    let a = answer_preview(image, record, events);
+    write_answer(a, value, event_count)
 }
 
 pub fn begin(image: &mut [u8], journal: &mut [u8]) -> u32
@@ -292,4 +288,11 @@ pub fn entered_cells() -> u32
     ensures { λ r. ⌜ EntersCells ⌝ }
 {
     2302
+}
+
+// What a preview says of the call that follows it, and that calls do not notice it, over the step that the contracts above cite.
+pub fn previews() -> u32
+    ensures { λ r. ⌜ Previews ⌝ }
+{
+    30
 }

@@ -1,8 +1,9 @@
-// The six calls of the token vault for C and Rust: a slice is passed as a pointer and a length, the value and the event count each as a pointer.
+// The seven calls of the token vault for C and Rust: a slice is passed as a pointer and a length, the value and the event count each as a pointer.
 ghost use Rattle.journal.specs.Calls.{Call};
 ghost use Rattle.journal.specs.Step.{vault};
 ghost use Rattle.token_vault.specs.Vault.{vaultStep};
 ghost use Rattle.token_vault.specs.Public.{CallIs, CallAlone, closedJournal, JournalIs};
+ghost use Rattle.token_vault.specs.Preview.{previewAnswer, PreviewIs};
 
 // A call: its number; value and event count are written for every answer.
 #[no_mangle]
@@ -31,6 +32,20 @@ pub extern "C" fn token_vault_call_without_journal(
     ensures { λ r. ⌜ CallAlone (vaultStep (vault (now (image .entry)) closedJournal) (Call.operation (now («record» .entry)) (now (events .entry)))) r (now (value .exit)) (now («event_count» .exit)) (now (events .exit)) (now (image .exit)) ⌝ }
 {
     token_vault::call_without_journal(image, record, events, value, event_count)
+}
+
+// A preview: what a call without a journal would answer. The image is lent to read, and there is no journal.
+#[no_mangle]
+pub extern "C" fn token_vault_preview(
+    image: &[u8],
+    record: &[u8],
+    events: &mut [u8],
+    value: &mut [u8; 16],
+    event_count: &mut u32,
+) -> u32
+    ensures { λ r. ⌜ PreviewIs (previewAnswer (now (image .entry)) (now («record» .entry)) (now (events .entry))) r (now (value .exit)) (now («event_count» .exit)) (now (events .exit)) ⌝ }
+{
+    token_vault::preview(image, record, events, value, event_count)
 }
 
 // Opens a transaction.

@@ -11,24 +11,29 @@ use lib.Seq.{take-at}
 use borrow.Author.Tests.{eq-eqb, ne-eqb, leb-true}
 use Rattle.fields.specs.Bytes.{le}
 use Rattle.fields.specs.Rules.{passed, free, unlinked, verdict-in, chain-in}
-use Rattle.journal.specs.Calls.{Call, State}
+use Rattle.journal.specs.Calls.{operation, State}
 use Rattle.journal.specs.Step.{vault}
-use Rattle.history.specs.Kept.{run}
-use Rattle.token_vault.specs.Vault.{vaultStep}
+use Rattle.token_vault.specs.Preview.{Request, call, preview, requestStep, runRequests}
 use Rattle.vault_vectors.specs.Vectors.{transaction, PrintsStep}
 use Rattle.token_vault_vectors.specs.Faults.{headRules, headFault, stateFault, callHeadRules, callHeadFault, recordFault, callFault}
-use Rattle.token_vault_vectors.specs.Replay.{callOf, AnswersCall, IsCallFault, TakesCalls, TakesState, RunsList, TakesList, NextList, IsFault, ListsEnd}
+use Rattle.token_vault_vectors.specs.Replay.{eventsOf, requestOf, AnswersCall, IsCallFault, TakesCalls, TakesState, RunsList, TakesList, NextList, IsFault, ListsEnd}
 
 -- ---- a call
 module _ (s : State) (h r : List ℕ) {text image journal : List ℕ} where
-  pub operation-called : (e : List ℕ) {m : ℕ} → PrintsStep (vaultStep s (Call.operation r e)) text image journal → getD h 0 0 ≡ 0 → e ≡ replicate m (getD h 1 0) → m ≡ le 2 h 4
-      → PrintsStep (vaultStep s (callOf h r)) text image journal
-  unfolding callOf
-  operation-called e p z f g = rw (eq-eqb (getD h 0 0) 0 z, ← g, ← f) p
+  -- the events of the head
+  module _ (e : List ℕ) {m : ℕ} (f : e ≡ replicate m (getD h 1 0)) (g : m ≡ le 2 h 4) where
+    pub operation-called : PrintsStep (requestStep s (call (operation r e))) text image journal → getD h 0 0 ≡ 0 → PrintsStep (requestStep s (requestOf h r)) text image journal
+    unfolding requestOf eventsOf
+    operation-called p z = rw (eq-eqb (getD h 0 0) 0 z, ← g, ← f) p
 
-  pub transaction-called : PrintsStep (vaultStep s (transaction (getD h 0 0))) text image journal → (getD h 0 0 ≡ 0 → ⊥) → PrintsStep (vaultStep s (callOf h r)) text image journal
-  unfolding callOf
-  transaction-called p z = rw (ne-eqb (getD h 0 0) 0 z) p
+    pub preview-called : PrintsStep (requestStep s (preview r e)) text image journal → getD h 0 0 ≡ 5 → PrintsStep (requestStep s (requestOf h r)) text image journal
+    unfolding requestOf eventsOf
+    preview-called p z = rw (z, ← g, ← f) p
+
+  pub transaction-called : PrintsStep (requestStep s (call (transaction (getD h 0 0)))) text image journal → (getD h 0 0 ≡ 0 → ⊥) → (getD h 0 0 ≡ 5 → ⊥)
+      → PrintsStep (requestStep s (requestOf h r)) text image journal
+  unfolding requestOf
+  transaction-called p y z = rw (ne-eqb (getD h 0 0) 0 y, ne-eqb (getD h 0 0) 5 z) p
 
 module _ (headRead recordRead : ℕ) (h b : List ℕ) {fault : ℕ} (e : fault ≡ callFault headRead h recordRead) where
   pub events-fit : fault ≡ 0 → le 2 h 4 ≤ 1024
@@ -39,7 +44,7 @@ module _ (headRead recordRead : ℕ) (h b : List ℕ) {fault : ℕ} (e : fault �
   call-left n = record { decided = e; whole = λ z. absurd (n z); other = λ _. refl }
 
   pub call-answered : (s : State) {text image journal : List ℕ} → fault ≡ 0
-      → PrintsStep (vaultStep s (callOf h (take recordRead b))) text image journal → AnswersCall s headRead h recordRead b 0 text image journal
+      → PrintsStep (requestStep s (requestOf h (take recordRead b))) text image journal → AnswersCall s headRead h recordRead b 0 text image journal
   call-answered s z p = record { decided = sym z ∙ e; whole = λ _. p; other = λ n. absurd (n refl) }
 
 -- a record is no longer than 512 bytes
@@ -49,28 +54,30 @@ record-fits headRead h z = passed (callHeadRules headRead h) refl z .1 .1 .1 .1 
 
 -- ---- calls
 pub record Taken (before after : State) (taken : ℕ) : Type 0 where
-  pub calls : List Call
+  pub calls : List Request
   pub counted : length calls ≡ taken
-  pub carried : after ≡ run vaultStep before calls
+  pub carried : after ≡ runRequests before calls
 
 pub none-taken : (s : State) → Taken s s 0
 none-taken s = record { calls = []; counted = refl; carried = refl }
 
-after-more : (s : State) (cs : List Call) (c : Call) → run vaultStep s (cs ++ (c ∷ [])) ≡ vaultStep (run vaultStep s cs) c .state
+after-more : (s : State) (cs : List Request) (c : Request) → runRequests s (cs ++ (c ∷ [])) ≡ requestStep (runRequests s cs) c .state
 after-more s [] c = refl
-after-more s (x ∷ cs) c = after-more (vaultStep s x .state) cs c
+after-more s (x ∷ cs) c = after-more (requestStep s x .state) cs c
 
--- the call c, one more
+-- one call more
 module _ {before s : State} {k : ℕ} (t : Taken before s k) where
-  state-is : (c : Call) {text image journal : List ℕ} → PrintsStep (vaultStep s c) text image journal → vault image journal ≡ vaultStep s c .state
+  state-is : (c : Request) {text image journal : List ℕ} → PrintsStep (requestStep s c) text image journal → vault image journal ≡ requestStep s c .state
   state-is c p = rw (p .changed, p .entered) refl
 
-  pub one-more : (c : Call) {text image journal : List ℕ} → PrintsStep (vaultStep s c) text image journal → Taken before (vault image journal) (k + 1)
-  one-more c p =
+  pub one-more : {headRead recordRead fault : ℕ} {h b text image journal : List ℕ} → AnswersCall s headRead h recordRead b fault text image journal → fault ≡ 0
+      → Taken before (vault image journal) (k + 1)
+  one-more {headRead} {recordRead} {fault} {h} {b} a z =
+      let c = requestOf h (take recordRead b) in
       record {
         calls = t .calls ++ (c ∷ []);
         counted = length-append (t .calls) (c ∷ []) ∙ ap (λ (i : ℕ). i + 1) (t .counted);
-        carried = state-is c p ∙ ap (λ (x : State). vaultStep x c .state) (t .carried) ∙ sym (after-more before (t .calls) c);
+        carried = state-is c (a .whole z) ∙ ap (λ (x : State). requestStep x c .state) (t .carried) ∙ sym (after-more before (t .calls) c);
       }
 
   pub none-more : {after : State} → after ≡ s → Taken before after k

@@ -35,13 +35,13 @@ stateFault imageRead journalRead s =
 
 -- begin, commit, rollback or undo with a record or an event buffer
 unfoldable pub hasNeedless : (h : List ℕ) → Bool
-hasNeedless h = ltb 0 (getD h 0 0) and (ltb 0 (le 2 h 2) or ltb 0 (le 2 h 4))
+hasNeedless h = (ltb 0 (getD h 0 0) and ltb (getD h 0 0) 5) and (ltb 0 (le 2 h 2) or ltb 0 (le 2 h 4))
 
 -- of a call's head h, of which headRead bytes were read
 abbrev pub callHeadRules : (headRead : ℕ) → (h : List ℕ) → List Rule
 callHeadRules headRead h =
     when (ne headRead 8) 7
-    ∷ when (lt 4 (getD h 0 0)) 8
+    ∷ when (lt 5 (getD h 0 0)) 8
     ∷ when (ne (le 2 h 6) 0) 9
     ∷ when (is (hasNeedless h)) 10
     ∷ when (lt 512 (le 2 h 2)) 11
@@ -74,7 +74,7 @@ sentences =
     ∷ "a list's image is cut short"
     ∷ "a list's journal is cut short"
     ∷ "a call's head is cut short"
-    ∷ "a call's kind is above 4"
+    ∷ "a call's kind is above 5"
     ∷ "bytes 6 and 7 of a call's head are not zero"
     ∷ "a begin, commit, rollback or undo has a record or an event buffer"
     ∷ "a call's record is longer than 512 bytes"
@@ -89,6 +89,6 @@ unfoldable pub faultLine : ℕ → List ℕ
 faultLine fault = text "token_vault_vectors: " ++ (faultText fault ++ text "\n")
 
 -- a worked example
-kind-line : faultLine 8 ≡ text "token_vault_vectors: a call's kind is above 4\n"
+kind-line : faultLine 8 ≡ text "token_vault_vectors: a call's kind is above 5\n"
 unfolding faultLine faultText sentences
 kind-line = refl

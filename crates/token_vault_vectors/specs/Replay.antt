@@ -8,10 +8,9 @@ use lib.Dec.{eqb}
 use lib.ListN.{length, take, getD, replicate}
 use Rattle.fields.specs.Bytes.{le}
 use Rattle.fields.specs.Rules.{pick}
-use Rattle.journal.specs.Calls.{Call, State, Step}
+use Rattle.journal.specs.Calls.{operation, State, Step}
 use Rattle.journal.specs.Step.{vault}
-use Rattle.history.specs.Kept.{run}
-use Rattle.token_vault.specs.Vault.{vaultStep}
+use Rattle.token_vault.specs.Preview.{Request, call, preview, requestStep, runRequests}
 use Rattle.vault_vectors.specs.Vectors.{stepLine, transaction, PrintsStep}
 use Rattle.token_vault_vectors.specs.Faults.{headFault, stateFault, callFault}
 
@@ -21,14 +20,21 @@ pub record IsStepLine (t : List ℕ) : Type 0 where
   pub same : t ≡ stepLine step
 
 -- ---- a call, whose head is h
--- kind 0 is an operation with the record r; its event buffer is as long as the head says, and filled with the head's byte
-unfoldable pub callOf : (h r : List ℕ) → Call
-callOf h r = pick (eqb (getD h 0 0) 0) (Call.operation r (replicate (le 2 h 4) (getD h 1 0))) (transaction (getD h 0 0))
+-- the event buffer is as long as the head says, and filled with the head's byte
+unfoldable pub eventsOf : (h : List ℕ) → List ℕ
+eventsOf h = replicate (le 2 h 4) (getD h 1 0)
+
+-- kind 0 is an operation with the record r, kind 5 the preview of one
+unfoldable pub requestOf : (h r : List ℕ) → Request
+requestOf h r =
+    pick (eqb (getD h 0 0) 0) (call (operation r (eventsOf h)))
+    (pick (eqb (getD h 0 0) 5) (preview r (eventsOf h))
+    (call (transaction (getD h 0 0))))
 
 -- where recordRead bytes were read into the buffer b: a call with no fault is answered as its step says, and any other changes nothing
 pub record AnswersCall (s : State) (headRead : ℕ) (h : List ℕ) (recordRead : ℕ) (b : List ℕ) (fault : ℕ) (text image journal : List ℕ) : Type 0 where
   pub decided : fault ≡ callFault headRead h recordRead
-  pub whole : fault ≡ 0 → PrintsStep (vaultStep s (callOf h (take recordRead b))) text image journal
+  pub whole : fault ≡ 0 → PrintsStep (requestStep s (requestOf h (take recordRead b))) text image journal
   pub other : (fault ≡ 0 → ⊥) → vault image journal ≡ s
 
 -- a call was read that has this fault
@@ -41,10 +47,10 @@ pub record IsCallFault (fault : ℕ) : Type 0 where
 
 -- ---- the calls of a list, in order: as many as the list has, unless one has a fault or its line was not written
 pub record TakesCalls (before after : State) (count taken fault : ℕ) (isWritten : Bool) : Type 0 where
-  pub calls : List Call
+  pub calls : List Request
   pub counted : length calls ≡ taken
   pub within : taken ≤ count
-  pub carried : after ≡ run vaultStep before calls
+  pub carried : after ≡ runRequests before calls
   pub ended : ((taken ≡ count) × (fault ≡ 0)) ⊎ (IsCallFault fault ⊎ ((isWritten ≡ false) × (fault ≡ 0)))
 
 -- the calls are taken where image and journal were read whole

@@ -6,12 +6,11 @@ ghost use mathlib.Core.Path.{_≡_};
 ghost use Prim.Native.Nat.{_≤_, _<_};
 ghost use lib.ListN.{length, drop};
 ghost use Rattle.fields.specs.Bytes.{le};
-ghost use Rattle.journal.specs.Calls.{Call};
 ghost use Rattle.journal.specs.Step.{vault};
-ghost use Rattle.token_vault.specs.Vault.{vaultStep};
-ghost use Rattle.vault_vectors.specs.Vectors.{transaction, PrintsStep};
+ghost use Rattle.token_vault.specs.Preview.{requestStep};
+ghost use Rattle.vault_vectors.specs.Vectors.{PrintsStep};
 ghost use Rattle.token_vault_vectors.specs.Faults.{headFault, stateFault, hasNeedless, callHeadFault, recordFault, callFault, faultText, faultLine};
-ghost use Rattle.token_vault_vectors.specs.Replay.{IsStepLine, callOf, AnswersCall, TakesCalls, TakesState, RunsList, TakesList, WithJournal, NextList, IsFault, ListsEnd};
+ghost use Rattle.token_vault_vectors.specs.Replay.{IsStepLine, requestOf, AnswersCall, TakesCalls, TakesState, RunsList, TakesList, WithJournal, NextList, IsFault, ListsEnd};
 
 // Every byte of standard output goes through here, and all of them are lines of steps.
 fn write_step_line(line: &[u8]) -> bool
@@ -33,34 +32,29 @@ struct PrintedLine {
     is_written: bool,
 }
 
-fn print_operation(
+// A whole call: record and event buffer have their lengths, and kinds 1 to 4 have an empty event buffer. The line stands in `out` from the index that is returned to the end.
+fn answer_call(
     image: &mut [u8],
     journal: &mut [u8],
+    head: &[u8; 8],
     record: &[u8],
     events: &mut [u8],
     out: &mut [u8; 512],
-) -> PrintedLine
-    ensures { λ r. ⌜ PrintsStep (vaultStep (vault (now (image .entry)) (now (journal .entry))) (Call.operation (now («record» .entry)) (now (events .entry)))) (drop (r .start) (now (out .exit))) (now (image .exit)) (now (journal .exit)) ⌝ }
+) -> usize
+    requires { ⌜ length (now events) ≡ le 2 (now head) 4 ⌝ }
+    ensures { λ r. ⌜ PrintsStep (requestStep (vault (now (image .entry)) (now (journal .entry))) (requestOf (now (head .entry)) (now («record» .entry)))) (drop r (now (out .exit))) (now (image .exit)) (now (journal .exit)) × (r ≤ 512) ⌝ }
 {
-    let start = vault_vectors::answer_operation(image, journal, record, events, out);
-    let is_written = write_from(out, start);
-    PrintedLine { start, is_written }
+    fields::fill(events, head[1]);
+    let kind = head[0];
+    if kind == 0 {
+        return vault_vectors::answer_operation(image, journal, record, events, out);
+    }
+    if kind == 5 {
+        return vault_vectors::answer_preview(image, journal, record, events, out);
+    }
+    vault_vectors::answer_transaction(image, journal, kind, out)
 }
 
-fn print_transaction(
-    image: &mut [u8],
-    journal: &mut [u8],
-    kind: u8,
-    out: &mut [u8; 512],
-) -> PrintedLine
-    ensures { λ r. ⌜ PrintsStep (vaultStep (vault (now (image .entry)) (now (journal .entry))) (transaction kind)) (drop (r .start) (now (out .exit))) (now (image .exit)) (now (journal .exit)) ⌝ }
-{
-    let start = vault_vectors::answer_transaction(image, journal, kind, out);
-    let is_written = write_from(out, start);
-    PrintedLine { start, is_written }
-}
-
-// A whole call: record and event buffer have their lengths.
 fn run_call(
     image: &mut [u8],
     journal: &mut [u8],
@@ -70,14 +64,11 @@ fn run_call(
     out: &mut [u8; 512],
 ) -> PrintedLine
     requires { ⌜ length (now events) ≡ le 2 (now head) 4 ⌝ }
-    ensures { λ r. ⌜ PrintsStep (vaultStep (vault (now (image .entry)) (now (journal .entry))) (callOf (now (head .entry)) (now («record» .entry)))) (drop (r .start) (now (out .exit))) (now (image .exit)) (now (journal .exit)) ⌝ }
+    ensures { λ r. ⌜ PrintsStep (requestStep (vault (now (image .entry)) (now (journal .entry))) (requestOf (now (head .entry)) (now («record» .entry)))) (drop (r .start) (now (out .exit))) (now (image .exit)) (now (journal .exit)) ⌝ }
 {
-    let kind = head[0];
-    if kind == 0 {
-        fields::fill(events, head[1]);
-        return print_operation(image, journal, record, events, out);
-    }
-    print_transaction(image, journal, kind, out)
+    let start = answer_call(image, journal, head, record, events, out);
+    let is_written = write_from(out, start);
+    PrintedLine { start, is_written }
 }
 
 // How many bytes were read of the head of a call, and of its record.
@@ -86,13 +77,14 @@ struct CallRead {
     record_read: usize,
 }
 
-// Only an operation has a record and an event buffer.
+// Only an operation and its preview have a record and an event buffer.
 fn has_needless(head: &[u8; 8]) -> bool
     ensures { λ r. ⌜ r ≡ hasNeedless (now (head .entry)) ⌝ }
 {
     let n = fields::get16(head, 2);
     let m = fields::get16(head, 4);
-    fields::both(head[0] > 0, fields::either(n > 0, m > 0))
+    let is_transaction = fields::both(head[0] > 0, head[0] < 5);
+    fields::both(is_transaction, fields::either(n > 0, m > 0))
 }
 
 fn call_head_fault(head: &[u8; 8], head_read: usize) -> u8
@@ -101,7 +93,7 @@ fn call_head_fault(head: &[u8; 8], head_read: usize) -> u8
     if head_read != 8 {
         return 7;
     }
-    if head[0] > 4 {
+    if head[0] > 5 {
         return 8;
     }
     if fields::get16(head, 6) != 0 {
@@ -452,7 +444,7 @@ fn write_call_fault(fault: u8) -> bool
 {
     match fault {
         7 => write_sentence(b"a call's head is cut short", fault),
-        8 => write_sentence(b"a call's kind is above 4", fault),
+        8 => write_sentence(b"a call's kind is above 5", fault),
         9 => write_sentence(b"bytes 6 and 7 of a call's head are not zero", fault),
         10 => write_sentence(
             b"a begin, commit, rollback or undo has a record or an event buffer",

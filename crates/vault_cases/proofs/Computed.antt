@@ -23,7 +23,8 @@ use Rattle.settings.specs.Settings.{operatorLimitNumber, operatorLimitOutcome, 
 use Rattle.handover.specs.Handover.{newOwnerNumber, proposeNumber, proposeOutcome, pendingNumber, expiredNumber, acceptNumber, acceptOutcome}
 use Rattle.migration.specs.Migration.{proposalNumber, initiateNumber, initiateOutcome, noMigrationNumber, earlyNumber, executeChecks, migrateNumber, migrateHolding, executeNumber, clearMigration, executeOutcome}
 use Rattle.views.specs.Views.{compliantNumber, compliantOutcome}
-use Rattle.token_vault.specs.Vault.{outcomeOf, view}
+use Rattle.operations.specs.Operations.{outcomeOf}
+use Rattle.token_vault.specs.Vault.{view}
 use Rattle.vault_cases.specs.Setting.{request, requestOf, deposits, depositsIn, depositsWithFee, depositsToken, paysTo, paysTwo, limitsOperator, setsLimit, pauses, proposes, acceptsAt, initiates, executesAt, asksCompliance}
 use Rattle.vault_cases.proofs.Runs.{Accepts, Refuses, Views, differing, differing-front}
 use Rattle.vault_cases.proofs.Flat.{imageOf, caseBytes, paidBytes, depositedBytes, migratedBytes, credited, noCredit, creditOfTen, creditFull}

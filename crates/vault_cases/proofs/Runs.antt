@@ -20,9 +20,10 @@ use Rattle.image.specs.Good.{goodImage}
 use Rattle.events.specs.Event.{bufferNumber}
 use Rattle.record.specs.Form.{formNumber}
 use Rattle.storage.specs.Facts.{Good, test}
-use Rattle.token_vault.specs.Vault.{outcomeOf, callNumber, op, view, vaultStep}
+use Rattle.operations.specs.Operations.{outcomeOf}
+use Rattle.token_vault.specs.Vault.{callNumber, op, view, vaultStep}
 use Rattle.token_vault.proofs.Called.{form-passed, own-number, own-image}
-use Rattle.token_vault.proofs.Owed.{outcome-good}
+use Rattle.operations.proofs.Owed.{outcome-good}
 use Rattle.vault_cases.specs.Cases.{shown, done, refused, answers}
 use Rattle.vault_cases.specs.Setting.{ask}
 

@@ -20,7 +20,8 @@ use Rattle.journal.specs.Step.{vault, reply, blank}
 use Rattle.journal.proofs.States.{fresh, fresh-valid, fresh-good, fresh-contents, zeros-good, zeros-contents, begun-closed, entered-good, entered-undone}
 use Rattle.journal.proofs.Written.{length-bytes}
 use Rattle.journal.proofs.Dispatch.{operated-entered, step-operation}
-use Rattle.token_vault.specs.Vault.{outcomeOf, op, view, vaultStep}
+use Rattle.operations.specs.Operations.{outcomeOf}
+use Rattle.token_vault.specs.Vault.{op, view, vaultStep}
 use Rattle.token_vault.proofs.Called.{own-number, own-image, vault-begin, vault-undo}
 use Rattle.vault_cases.specs.Setting.{caseImage, fullCreditImage, start, ask, deposits, depositsIn, depositsWithFee, depositsToken, paysTo, paysTwo, limitsOperator, setsLimit, pauses, proposes, acceptsAt, initiates, executesAt, asksCompliance}
 use Rattle.vault_cases.specs.Cases.{Cases, answers, after, done, refused}

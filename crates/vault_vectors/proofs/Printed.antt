@@ -9,18 +9,30 @@ use Rattle.amount.specs.Biased.{bias}
 use Rattle.amount.specs.Laws.{subℕ-ge}
 use Rattle.answer_line.specs.Decimal.{answerWords}
 use Rattle.journal.specs.Calls.{Step}
+use Rattle.journal.specs.Step.{vault}
 use Rattle.token_vault.specs.Public.{CallIs, JournalIs}
+use Rattle.token_vault.specs.Preview.{previewAnswer, PreviewIs, preview, requestStep}
 use Rattle.vault_program.specs.Program.{signedAt, signedAt-value}
 use Rattle.vault_vectors.specs.Vectors.{digests, stepLine, PrintsStep}
 use Rattle.vault_vectors.proofs.Transactions.{Quiet}
 
-pub operation-prints : {s : Step} {n k : ℕ} {v e i j t : List ℕ} {z : ℤ} → CallIs s n v k e i j → z ≡ signedAt v → t ≡ answerWords n z k (digests e i j) → PrintsStep s t i j
+pub operation-prints : {s : Step} {n k : ℕ} {v e i j t : List ℕ} → CallIs s n v k e i j → t ≡ answerWords n (signedAt v) k (digests e i j) → PrintsStep s t i j
 unfolding stepLine
-operation-prints d y w =
+operation-prints d w =
     record {
-      printed = w ∙ rw (y, d .numbered, d .valued, d .counted, d .written, d .changed, d .entered) refl;
+      printed = w ∙ rw (d .numbered, d .valued, d .counted, d .written, d .changed, d .entered) refl;
       changed = d .changed;
       entered = d .entered;
+    }
+
+pub preview-prints : (i j r e : List ℕ) {n k : ℕ} {v u t : List ℕ} → PreviewIs (previewAnswer i r e) n v k u → t ≡ answerWords n (signedAt v) k (digests u i j)
+    → PrintsStep (requestStep (vault i j) (preview r e)) t i j
+unfolding stepLine
+preview-prints i j r e d w =
+    record {
+      printed = w ∙ rw (d .numbered, d .valued, d .counted, d .written) refl;
+      changed = refl;
+      entered = refl;
     }
 
 none : (b : ℕ) → subℕ b b ≡ pos 0

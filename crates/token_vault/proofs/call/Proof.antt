@@ -8,14 +8,8 @@ use Rattle.token_vault.proofs.call.Tie as tie
 answer-call-requires : tie.Need-answer-call-requires
 answer-call-requires c κs = search needs
 
-write-value-requires : tie.Need-write-value-requires
-write-value-requires c κs = search needs
-
-cast-event-count : tie.Need-cast-event-count
-cast-event-count c = search needs
-
-cast-result : tie.Need-cast-result
-cast-result c = search needs
+write-answer-requires : tie.Need-write-answer-requires
+write-answer-requires c κs = search needs
 
 same-length : tie.Need-same-length
 same-length c = search needs
@@ -27,16 +21,14 @@ same-length-3 : tie.Need-same-length-3
 same-length-3 c = search needs
 
 returns : tie.Need-returns
-returns c = let e = c .before .before .before .before .before .before .before .before .before .before .before .answer-call .ensures in record { numbered = e .numbered; valued = c .before .before .write-value .ensures ∙ ap amountBytes (e .valued); counted = e .counted; written = e .written; changed = e .changed; entered = e .entered }
+returns c = let e = c .before .before .before .before .before .before .before .before .before .answer-call .ensures in let w = c .write-answer .ensures in record { numbered = w .0 ∙ e .numbered; valued = w .1 ∙ ap amountBytes (e .valued); counted = w .2 ∙ e .counted; written = e .written; changed = e .changed; entered = e .entered }
 
 pub call-spec : {M : Type 1} → statement M
 call-spec =
     tie.close
     (tie.spec
     answer-call-requires
-    write-value-requires
-    cast-event-count
-    cast-result
+    write-answer-requires
     same-length
     same-length-2
     same-length-3

@@ -1,6 +1,6 @@
 -- `token_vault::run_view` meets its contract.
 use Rattle.token_vault.proofs.Called.{own-refused, view-done}
-use Rattle.token_vault.proofs.Owed.{form-zero}
+use Rattle.token_vault.proofs.Accepted.{form-zero}
 use borrow.Author.Needs.{needs}
 use Rattle.token_vault.proofs.run_view.Statement.{statement}
 use Rattle.token_vault.proofs.run_view.Tie as tie

@@ -1,6 +1,6 @@
 -- `token_vault::try_operation` meets its contract.
 use Rattle.token_vault.proofs.Called.{tried, tried-refused}
-use Rattle.token_vault.proofs.Owed.{form-zero}
+use Rattle.token_vault.proofs.Accepted.{form-zero}
 use mathlib.Core.Path.{refl}
 use borrow.Author.Needs.{needs}
 use Rattle.token_vault.proofs.try_operation.Statement.{statement}

@@ -43,13 +43,13 @@ same-length-4 : tie.Need-same-length-4 Inv-loop μ-loop
 same-length-4 c = search needs
 
 returns-2 : tie.Need-returns-2 Inv-loop μ-loop
-returns-2 c = ended (one-more (c .before .before .before .before .before .before .before .before .before .before .before .before .before .before .before .before .loop .inv .0) _ (c .before .before .before .before .before .before .before .before .next-call .ensures .whole (c .before .before .if1 .left))) (omega arith) (inr (inr (refl, refl)))
+returns-2 c = ended (one-more (c .before .before .before .before .before .before .before .before .before .before .before .before .before .before .before .before .loop .inv .0) (c .before .before .before .before .before .before .before .before .next-call .ensures) (c .before .before .if1 .left)) (omega arith) (inr (inr (refl, refl)))
 
 loop-less : tie.Need-loop-less Inv-loop μ-loop
 loop-less c = search needs
 
 loop-again : tie.Need-loop-again Inv-loop μ-loop
-loop-again c = (one-more (c .before .before .before .before .before .before .before .before .before .before .before .before .before .before .before .before .loop .inv .0) _ (c .before .before .before .before .before .before .before .before .next-call .ensures .whole (c .before .before .if1 .left)), search needs, search needs, omega arith)
+loop-again c = (one-more (c .before .before .before .before .before .before .before .before .before .before .before .before .before .before .before .before .loop .inv .0) (c .before .before .before .before .before .before .before .before .next-call .ensures) (c .before .before .if1 .left), search needs, search needs, omega arith)
 
 same-length-5 : tie.Need-same-length-5 Inv-loop μ-loop
 same-length-5 c = search needs

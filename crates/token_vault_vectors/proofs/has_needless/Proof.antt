@@ -14,15 +14,21 @@ get16-requires-2 c κs = search needs
 element-copy-out-both : tie.Need-element-copy-out-both
 element-copy-out-both c = search needs
 
-either-requires : tie.Need-either-requires
-either-requires c κs = search needs
+element-copy-out-both-2 : tie.Need-element-copy-out-both-2
+element-copy-out-both-2 c = search needs
 
 both-requires : tie.Need-both-requires
 both-requires c κs = search needs
 
+either-requires : tie.Need-either-requires
+either-requires c κs = search needs
+
+both-requires-2 : tie.Need-both-requires-2
+both-requires-2 c κs = search needs
+
 returns : tie.Need-returns
 unfolding hasNeedless
-returns c = c .both .ensures ∙ rw (c .before .either .ensures, c .before .before .before .before .before .get16 .ensures, c .before .before .before .get162 .ensures) refl
+returns c = c .both2 .ensures ∙ rw (c .before .before .both .ensures, c .before .either .ensures, c .before .before .before .before .before .before .before .get16 .ensures, c .before .before .before .before .before .get162 .ensures) refl
 
 pub has-needless-spec : {M : Type 1} → statement M
 has-needless-spec =
@@ -31,6 +37,8 @@ has-needless-spec =
     get16-requires
     get16-requires-2
     element-copy-out-both
-    either-requires
+    element-copy-out-both-2
     both-requires
+    either-requires
+    both-requires-2
     returns)

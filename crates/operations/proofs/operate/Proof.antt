@@ -1,13 +1,13 @@
--- `token_vault::operate` meets its contract.
-use Rattle.token_vault.proofs.Dispatched.{rest-is-30}
-use Rattle.token_vault.specs.Vault.{outcomeOf}
+-- `operations::operate` meets its contract.
+use Rattle.operations.proofs.Dispatched.{rest-is-30}
+use Rattle.operations.specs.Operations.{outcomeOf}
 use Rattle.outcome.specs.Outcome.{formed-as}
 use Rattle.record.specs.Laws.{form-operation}
 use mathlib.Core.Path.{sym, ap, _∙_}
 use Rattle.record.specs.Form.{isView}
 use borrow.Author.Needs.{needs}
-use Rattle.token_vault.proofs.operate.Statement.{statement}
-use Rattle.token_vault.proofs.operate.Tie as tie
+use Rattle.operations.proofs.operate.Statement.{statement}
+use Rattle.operations.proofs.operate.Tie as tie
 
 operation-requires : tie.Need-operation-requires
 operation-requires c κs = search needs

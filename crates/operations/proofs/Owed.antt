@@ -1,8 +1,8 @@
--- What the operations owe, put together: an accepted call leaves the image good, and moves image and book alike.
+-- What the operations owe, put together: an accepted one leaves the image good, and moves image and book alike.
 use mathlib.Core.Path.{_≡_, refl, sym, ap, _∙_}
 use mathlib.Core.Bool.{Bool, true, false}
 use mathlib.Core.List.{List, [], _∷_}
-use Prim.Native.Nat.{ℕ, zero, suc, _≤_}
+use Prim.Native.Nat.{ℕ, suc, _≤_}
 use native.Mathlib.Omega.{arith}
 use borrow.Author.Tests.{eqb-true, eqb-false}
 use lib.Dec.{eqb}
@@ -24,28 +24,8 @@ use Rattle.setup.specs.Setup.{initialize}
 use Rattle.record.specs.Record.{operationOf}
 use Rattle.storage.specs.Facts.{Good}
 use Rattle.fields.specs.Logic.{_and_, and-l, and-r}
-use Rattle.fields.specs.Rules.{pick, unlinked}
-use Rattle.token_vault.specs.Vault.{operations, outcomeAt, outcomeOf, callNumber, byForm, op, view}
-
--- what an accepted call has shown, and what it leaves
-pub record Accepted (l r e : List ℕ) : Type 0 where
-  pub formed : formNumber r ≡ 0
-  pub agreed : outcomeOf l r .number ≡ 0
-  pub left : op l r e .image ≡ outcomeOf l r .image
-  pub said : op l r e .answer .events ≡ eventBuffer (outcomeOf l r .events)
-
-pub form-zero : (r e : List ℕ) → callNumber r e ≡ 0 → formNumber r ≡ 0
-unfolding callNumber
-form-zero r e q = unlinked _ q .0
-
-pub accepted-call : (l r e : List ℕ) → op l r e .answer .number ≡ 0 → Accepted l r e
-unfolding op
-accepted-call l r e z = go (callNumber r e) (outcomeOf l r .number) refl refl z
-  where
-    go : (k n : ℕ) → callNumber r e ≡ k → outcomeOf l r .number ≡ n → byForm k (outcomeOf l r) l e .answer .number ≡ 0 → Accepted l r e
-    go zero zero p q z = record { formed = form-zero r e p; agreed = q; left = rw (p, q); said = rw (p, q) }
-    go zero (suc n) p q z = absurd (let w : suc n ≡ 0 = rw q at z in omega arith)
-    go (suc k) n p q z = absurd (omega arith)
+use Rattle.fields.specs.Rules.{pick}
+use Rattle.operations.specs.Operations.{operations, outcomeAt, outcomeOf}
 
 -- what holds of each row of a table where the number is the row's, and of the last row where the number is no less, holds of the outcome at a number
 abbrev pub AllRows : (Outcome → Type 0) → ℕ → ℕ × Outcome → List (ℕ × Outcome) → Type 0
@@ -168,9 +148,8 @@ module _ (l r : List ℕ) (g : Good l) (f : formNumber r ≡ 0) where
         ),
       )
 
-  module _ (b : Book) (m : BookIs b l) (v : view r ≡ false) where
+  module _ (b : Book) (m : BookIs b l) (v : isView (operationOf r) ≡ false) where
     no-view : (k : ℕ) → operationOf r ≡ k → isView k ≡ true → ⊥
-    unfolding view
     no-view k o q = let z : true ≡ false = sym q ∙ (sym (ap isView o) ∙ v) in let w : _≡_ {A = ℕ} 0 1 = cc in omega arith
 
     pub outcome-booked : outcomeOf l r .number ≡ 0 → BookIs (enterBook b r (eventBuffer (outcomeOf l r .events))) (outcomeOf l r .image)

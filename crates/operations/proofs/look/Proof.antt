@@ -1,12 +1,12 @@
--- `token_vault::look` meets its contract.
-use Rattle.token_vault.proofs.Dispatched.{rest-is-28}
-use Rattle.token_vault.specs.Vault.{outcomeOf}
+-- `operations::look` meets its contract.
+use Rattle.operations.proofs.Dispatched.{rest-is-28}
+use Rattle.operations.specs.Operations.{outcomeOf}
 use Rattle.outcome.specs.Outcome.{formed-as}
 use Rattle.record.specs.Form.{isView}
 use mathlib.Core.Path.{sym, ap, _∙_}
 use borrow.Author.Needs.{needs}
-use Rattle.token_vault.proofs.look.Statement.{statement}
-use Rattle.token_vault.proofs.look.Tie as tie
+use Rattle.operations.proofs.look.Statement.{statement}
+use Rattle.operations.proofs.look.Tie as tie
 
 operation-requires : tie.Need-operation-requires
 operation-requires c κs = search needs

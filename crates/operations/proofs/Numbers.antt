@@ -26,9 +26,9 @@ use Rattle.handover.specs.Handover.{newOwnerNumber, proposeNumber, proposeOutco
 use Rattle.migration.specs.Migration.{proposalNumber, initiateNumber, initiateOutcome, noMigrationNumber, earlyNumber, executeChecks, migrateNumber, executeNumber, executeOutcome, cancelNumber, cancelOutcome}
 use Rattle.views.specs.Views.{withdrawCapNumber, effectiveNumber, balanceOutcome, effectiveOutcome, accountOutcome, approvedOutcome, compliantNumber, compliantOutcome}
 use Rattle.moves.specs.Outside.{senderNumber, outsideMoveChecks, outsideMoveNumber, outsideMoveOutcome, freezeNumber, freezeOutcome}
-use Rattle.token_vault.specs.Vault.{operations, outcomeOf}
-use Rattle.token_vault.specs.Demand.{isOwn}
-use Rattle.token_vault.proofs.Owed.{chosen, operations-consecutive}
+use Rattle.operations.specs.Operations.{operations, outcomeOf}
+use Rattle.operations.specs.Operations.{isOwn}
+use Rattle.operations.proofs.Owed.{chosen, operations-consecutive}
 
 by-rules : (rs : List Rule) → codesIn isOwn rs ≡ true → isOwn (verdict rs) ≡ true
 by-rules = verdict-in isOwn

@@ -1,0 +1,2 @@
+-- The table of operations.
+pub mod Operations
