@@ -1,5 +1,5 @@
-/* Calls all six functions of the token vault, and the readers and writers of its header, and checks their answers. Prints one line; its status
- * is 1 if an answer was wrong. */
+/* Calls all seven functions of the token vault, and the readers and writers of its header, and checks their answers. Prints one line; its
+ * status is 1 if an answer was wrong. */
 #include "token_vault.h"
 #include <stdio.h>
 #include <string.h>
@@ -49,6 +49,12 @@ static uint32_t call(void) {
 
 static uint32_t call_without_journal(void) {
     return token_vault_call_without_journal(image, sizeof image, record, sizeof record, events, sizeof events, value, &count);
+}
+
+/* The image is lent as const. */
+static uint32_t preview(void) {
+    const uint8_t *lent = image;
+    return token_vault_preview(lent, sizeof image, record, sizeof record, events, sizeof events, value, &count);
 }
 
 static struct token_vault_amount holding(uint8_t account) {
@@ -149,6 +155,106 @@ static void items(void) {
     check_amount("item amount", token_vault_record_item_amount(record, 1), 35);
 }
 
+/* Bytes that an answer has to write over. */
+static void fill_answer(void) {
+    memset(events, 0xa5, sizeof events);
+    memset(value, 0xa5, sizeof value);
+    count = 0xa5a5a5a5u;
+}
+
+static int are_all(const uint8_t *bytes, size_t length, uint8_t byte) {
+    size_t i;
+    for (i = 0; i < length; i++) {
+        if (bytes[i] != byte) return 0;
+    }
+    return 1;
+}
+
+/* Previews the record, which leaves the image as it is; then makes the call, which gives the same number, value, count and event bytes. */
+static void check_previewed(const char *what, uint32_t (*make)(void), uint32_t wanted) {
+    uint8_t previewed[TOKEN_VAULT_EVENTS_LENGTH], previewed_value[16];
+    uint32_t previewed_count;
+    memcpy(before, image, sizeof image);
+    fill_answer();
+    check(what, preview(), wanted);
+    check("image after a preview", memcmp(before, image, sizeof image) == 0, 1);
+    memcpy(previewed, events, sizeof events);
+    memcpy(previewed_value, value, sizeof value);
+    previewed_count = count;
+    fill_answer();
+    check(what, make(), wanted);
+    check("events as previewed", memcmp(previewed, events, sizeof events) == 0, 1);
+    check("value as previewed", memcmp(previewed_value, value, sizeof value) == 0, 1);
+    check("count as previewed", count, previewed_count);
+}
+
+/* With 50 in the vault: a payout, a refused one and a view. */
+static void previews(void) {
+    begin_record(TOKEN_VAULT_OP_DEPOSIT, 50);
+    check("deposit", call_without_journal(), TOKEN_VAULT_DONE);
+    begin_payout(40);
+    check_previewed("payout", call_without_journal, TOKEN_VAULT_DONE);
+    check("image after the call", memcmp(before, image, sizeof image) != 0, 1);
+    check("event count", count, 1);
+    check_written(0, PAYEE, 40, 10);
+    begin_payout(11);
+    check_previewed("payout above the holding", call_without_journal, TOKEN_VAULT_REFUSAL_LIMIT_EXCEEDED);
+    check("event count", count, 0);
+    check("blank events", (uint64_t)are_all(events, sizeof events, 0), 1);
+    check_amount("value", token_vault_get_amount(value), 0);
+    token_vault_record_begin(record, TOKEN_VAULT_OP_BALANCE);
+    check_previewed("balance", call_without_journal, TOKEN_VAULT_DONE);
+    check_amount("value", token_vault_get_amount(value), 10);
+    check("blank events", (uint64_t)are_all(events, sizeof events, 0), 1);
+}
+
+/* A preview refused with 30, 32 or 33: the event buffer as it was lent, value and count 0. */
+static void check_as_lent(const char *what, size_t image_length, size_t record_length, size_t events_length, uint32_t wanted) {
+    fill_answer();
+    check(what, token_vault_preview(image, image_length, record, record_length, events, events_length, value, &count), wanted);
+    check("events as lent", (uint64_t)are_all(events, sizeof events, 0xa5), 1);
+    check_amount("value", token_vault_get_amount(value), 0);
+    check("event count", count, 0);
+}
+
+static void previews_that_are_refused(void) {
+    begin_payout(1);
+    check_as_lent("short image", sizeof image - 1, 447, 895, TOKEN_VAULT_REFUSAL_INVALID_IMAGE);
+    check_as_lent("short record", sizeof image, 447, 895, TOKEN_VAULT_REFUSAL_INVALID_RECORD);
+    check_as_lent("short events", sizeof image, sizeof record, 895, TOKEN_VAULT_REFUSAL_INVALID_EVENT_BUFFER);
+    begin_record(31, 0);
+    check_as_lent("operation 31", sizeof image, sizeof record, sizeof events, TOKEN_VAULT_REFUSAL_INVALID_RECORD);
+}
+
+/* A journal with room for one entry. */
+static uint8_t small_journal[TOKEN_VAULT_JOURNAL_LENGTH_MIN];
+
+static uint32_t call_in_small_journal(void) {
+    return token_vault_call(image, sizeof image, small_journal, sizeof small_journal, record, sizeof record, events, sizeof events, value,
+                            &count);
+}
+
+static void previews_in_transactions(void) {
+    uint8_t opened[TOKEN_VAULT_JOURNAL_LENGTH_MIN];
+    begin_payout(5);
+    check("begin", token_vault_begin(image, sizeof image, journal, sizeof journal), TOKEN_VAULT_DONE);
+    check_previewed("payout in a transaction", call, TOKEN_VAULT_DONE);
+    check("calls", token_vault_get_u16(journal + TOKEN_VAULT_JOURNAL_AT_CALLS), 1);
+    check("rollback", token_vault_rollback(image, sizeof image, journal, sizeof journal), TOKEN_VAULT_DONE);
+    check("begin", token_vault_begin(image, sizeof image, small_journal, sizeof small_journal), TOKEN_VAULT_DONE);
+    check("no room", call_in_small_journal(), TOKEN_VAULT_REFUSAL_JOURNAL_FULL);
+    memcpy(opened, small_journal, sizeof opened);
+    check("preview without room", preview(), TOKEN_VAULT_DONE);
+    check("journal after a preview", memcmp(opened, small_journal, sizeof opened) == 0, 1);
+    check_written(0, PAYEE, 5, 5);
+    check("no room", call_in_small_journal(), TOKEN_VAULT_REFUSAL_JOURNAL_FULL);
+    begin_payout(11);
+    check_previewed("refused without room", call_in_small_journal, TOKEN_VAULT_REFUSAL_LIMIT_EXCEEDED);
+    token_vault_record_begin(record, TOKEN_VAULT_OP_BALANCE);
+    check_previewed("view without room", call_in_small_journal, TOKEN_VAULT_DONE);
+    check("commit", token_vault_commit(image, sizeof image, small_journal, sizeof small_journal), TOKEN_VAULT_DONE);
+}
+
 static void fields(void) {
     token_vault_record_begin(record, TOKEN_VAULT_OP_APPROVE_TOKEN);
     token_vault_record_set_caller(record, 7);
@@ -219,6 +325,9 @@ int main(void) {
     transactions();
     buffers_that_are_refused();
     items();
+    previews();
+    previews_that_are_refused();
+    previews_in_transactions();
     fields();
     amounts();
     refusals();

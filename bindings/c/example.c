@@ -1,4 +1,4 @@
-/* A small story of a vault, to start from: it is initialised, paid into, refuses a payout, makes one, and takes another back.
+/* A small story of a vault, to start from: it is initialised, paid into, refuses a payout, previews one and makes it, and takes another back.
  *
  *   gcc -Ibindings/include bindings/c/example.c target/staticlib/libtoken_vault_abi.a -o example */
 #include "token_vault.h"
@@ -50,10 +50,28 @@ static void deposit(int64_t amount) {
     call("deposit", record);
 }
 
-static void pay_out(int64_t amount) {
-    uint8_t record[TOKEN_VAULT_RECORD_LENGTH];
+static void begin_payout(uint8_t *record, int64_t amount) {
     begin_record(record, TOKEN_VAULT_OP_WITHDRAW, amount);
     token_vault_record_set_other(record, PAYEE);
+}
+
+/* What a payout would be answered, and what the vault would hold after it. Nothing changes. */
+static void preview_payout(int64_t amount) {
+    uint8_t record[TOKEN_VAULT_RECORD_LENGTH];
+    uint8_t events[TOKEN_VAULT_EVENTS_LENGTH];
+    uint8_t value[16];
+    uint32_t event_count;
+    int64_t left;
+    begin_payout(record, amount);
+    show("preview of withdraw", token_vault_preview(image, sizeof image, record, sizeof record, events, sizeof events, value, &event_count));
+    if (event_count == 1 && token_vault_amount_to_int64(token_vault_event_number(token_vault_event(events, 0), 1), &left)) {
+        printf("  the vault would hold %" PRId64 "\n", left);
+    }
+}
+
+static void pay_out(int64_t amount) {
+    uint8_t record[TOKEN_VAULT_RECORD_LENGTH];
+    begin_payout(record, amount);
     call("withdraw", record);
 }
 
@@ -79,6 +97,7 @@ int main(void) {
     deposit(300);
     show_holdings();
     pay_out(301);
+    preview_payout(40);
     pay_out(40);
     show_holdings();
 

@@ -3,8 +3,8 @@
  * Every function answers for any bytes of any length: nothing is asked of what stands in a buffer or of how long it is, and no call traps or
  * keeps anything between calls. Each buffer is a pointer and its length in bytes; the caller owns it before, during and after the call.
  * What the compiler cannot see and the caller must keep to: each pointer is good for its length (a length of 0 allows any pointer that is not
- * null); no two buffers of one call overlap, value and event_count being two more of them; and no other thread touches them during the call. A
- * call needs less than 64 KiB of stack. The library is for x86-64.
+ * null); a buffer that is not const overlaps no other of the same call, value and event_count being two more of them; and during the call no
+ * other thread touches such a buffer or writes to one that is const. A call needs less than 64 KiB of stack. The library is for x86-64.
  *
  * Buffers: the image (36,832 bytes when good), the journal (24 times 1 + k bytes, k from 1 to 2,000; all zero is a closed one), the record
  * (448 bytes), the events (896 bytes). A buffer of another length or with other contents is refused by its number and left as it was.
@@ -17,7 +17,7 @@
 #include <stddef.h>
 #include <stdint.h>
 
-#define TOKEN_VAULT_VERSION "0.1.1"
+#define TOKEN_VAULT_VERSION "0.2.0"
 
 /* Lengths in bytes, and how many there are at most. */
 #define TOKEN_VAULT_IMAGE_LENGTH 36832
@@ -224,6 +224,11 @@ uint32_t token_vault_call(uint8_t *image, size_t image_length, uint8_t *journal,
 /* The same with a closed journal of its own. */
 uint32_t token_vault_call_without_journal(uint8_t *image, size_t image_length, const uint8_t *record, size_t record_length,
                                           uint8_t *events, size_t events_length, uint8_t value[16], uint32_t *event_count);
+
+/* What the call without a journal would give on a copy of the image: its number, value, event count and event buffer. The image stays as it is.
+ * There is no journal, so never 31 or 34. A call of the same bytes that follows gives the same, unless its journal is not good or has no room. */
+uint32_t token_vault_preview(const uint8_t *image, size_t image_length, const uint8_t *record, size_t record_length, uint8_t *events,
+                             size_t events_length, uint8_t value[16], uint32_t *event_count);
 
 /* Opens a transaction. */
 uint32_t token_vault_begin(uint8_t *image, size_t image_length, uint8_t *journal, size_t journal_length);

@@ -1,4 +1,4 @@
-//! The six functions of the library over byte slices. Any bytes of any length get an answer: 0, or the number of a refusal.
+//! The seven functions of the library over byte slices. Any bytes of any length get an answer: 0, or the number of a refusal.
 
 /// The declarations of include/token_vault.h: a slice is a pointer and a length.
 mod declared {
@@ -25,6 +25,16 @@ mod declared {
             value: *mut [u8; 16],
             event_count: *mut u32,
         ) -> u32;
+        pub fn token_vault_preview(
+            image: *const u8,
+            image_length: usize,
+            record: *const u8,
+            record_length: usize,
+            events: *mut u8,
+            events_length: usize,
+            value: *mut [u8; 16],
+            event_count: *mut u32,
+        ) -> u32;
         pub fn token_vault_begin(image: *mut u8, image_length: usize, journal: *mut u8, journal_length: usize) -> u32;
         pub fn token_vault_commit(image: *mut u8, image_length: usize, journal: *mut u8, journal_length: usize) -> u32;
         pub fn token_vault_rollback(image: *mut u8, image_length: usize, journal: *mut u8, journal_length: usize) -> u32;
@@ -32,8 +42,8 @@ mod declared {
     }
 }
 
-// In every block below each pointer is that of a borrowed slice and stands with its length. Mutable borrows do not
-// overlap, and they last for the call. The library keeps no pointer and asks for nothing else.
+// In every block below each pointer is that of a borrowed slice and stands with its length. Mutable borrows overlap no
+// other, and all last for the call. The library keeps no pointer and asks for nothing else.
 
 /// Makes the call of a record on an image, in the transaction of a journal. Value (16 bytes, two's complement, least
 /// significant byte first) and event count are written for every answer.
@@ -59,6 +69,22 @@ pub fn call_without_journal(image: &mut [u8], record: &[u8], events: &mut [u8], 
     unsafe {
         declared::token_vault_call_without_journal(
             image.as_mut_ptr(),
+            image.len(),
+            record.as_ptr(),
+            record.len(),
+            events.as_mut_ptr(),
+            events.len(),
+            value,
+            event_count,
+        )
+    }
+}
+
+/// What `call_without_journal` would answer and write to the event buffer on a copy of the image, which stays as it is.
+pub fn preview(image: &[u8], record: &[u8], events: &mut [u8], value: &mut [u8; 16], event_count: &mut u32) -> u32 {
+    unsafe {
+        declared::token_vault_preview(
+            image.as_ptr(),
             image.len(),
             record.as_ptr(),
             record.len(),

@@ -69,9 +69,9 @@ impl Image {
         self.0
     }
 
-    /// Whether the library takes it: a view on a copy is not refused with 30.
+    /// Whether the library takes it: a view of it is not refused with 30.
     pub fn is_good(&self) -> bool {
-        self.clone().call(&Record::balance()) != Err(Refusal::InvalidImage)
+        self.preview(&Record::balance()) != Err(Refusal::InvalidImage)
     }
 
     /// Its fields; none where the length is not 36,832.
@@ -107,6 +107,31 @@ impl Image {
         let mut answer = Answer::new();
         let number =
             exports::call_without_journal(&mut self.0, record.as_bytes(), &mut answer.events, &mut answer.value, &mut answer.event_count);
+        answer.done(number)
+    }
+
+    /// What [`Image::call`] would give; nothing changes. A call that follows gives the same, in a transaction
+    /// ([`Image::call_in`]) too, unless the journal is not good or has no room for it.
+    ///
+    /// ```
+    /// use token_vault::{Image, Record, Refusal};
+    ///
+    /// let mut image = Image::new();
+    /// image.add_token(48, 0)?;
+    /// image.set_holding(48, 2, 500)?;
+    /// image.call(&Record::initialize(2, 48, 1_000).signed_by(&[2]))?;
+    /// image.call(&Record::deposit(2, 300).signed_by(&[2]))?;
+    /// assert_eq!(image.preview(&Record::withdraw(2, 4, 301).signed_by(&[2])), Err(Refusal::LimitExceeded));
+    /// let payout = Record::withdraw(2, 4, 40).signed_by(&[2]);
+    /// let previewed = image.preview(&payout)?;
+    /// assert_eq!(image.view().unwrap().holding(48, 4), 0);
+    /// assert_eq!(image.call(&payout)?, previewed);
+    /// assert_eq!(image.view().unwrap().holding(48, 4), 40);
+    /// # Ok::<(), Box<dyn std::error::Error>>(())
+    /// ```
+    pub fn preview(&self, record: &Record) -> Result<Done, Refusal> {
+        let mut answer = Answer::new();
+        let number = exports::preview(&self.0, record.as_bytes(), &mut answer.events, &mut answer.value, &mut answer.event_count);
         answer.done(number)
     }
 

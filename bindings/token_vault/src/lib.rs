@@ -1,8 +1,9 @@
 //! The token vault for Rust: types and safe calls over its proved library.
 //!
 //! An [`Image`] is all that a vault keeps. A [`Record`] is one call on it, with the addresses that signed it. A call is
-//! done, with a value and [`Event`]s, or refused with a [`Refusal`] and then nothing has changed. In the transaction of a
-//! [`Journal`] calls can be undone. Formats and rules are in docs/FORMATS.md of the repository.
+//! done, with a value and [`Event`]s, or refused with a [`Refusal`] and then nothing has changed. A preview gives the same
+//! and never changes anything. In the transaction of a [`Journal`] calls can be undone. Formats and rules are in
+//! docs/FORMATS.md of the repository.
 //!
 //! ```
 //! use token_vault::{Image, Journal, Record, Refusal};
@@ -20,10 +21,16 @@
 //! let refusal = image.call(&Record::withdraw(2, 4, 40)).unwrap_err();
 //! assert_eq!(refusal, Refusal::SignatureMissing);
 //!
-//! // A payout in a transaction, undone.
+//! // A look at a payout before it is made.
+//! let payout = Record::withdraw(2, 4, 40).signed_by(&[2]);
+//! let previewed = image.preview(&payout)?;
+//! assert_eq!(previewed.events[0].to_string(), "withdrawn: owner 2 paid 40 to 4; the vault now holds 260");
+//! assert_eq!(image.view().unwrap().holding(48, 4), 0);
+//!
+//! // The payout in a transaction, undone.
 //! let mut journal = Journal::new(100).unwrap();
 //! image.begin(&mut journal)?;
-//! image.call_in(&mut journal, &Record::withdraw(2, 4, 40).signed_by(&[2]))?;
+//! assert_eq!(image.call_in(&mut journal, &payout)?, previewed);
 //! assert_eq!(image.view().unwrap().holding(48, 4), 40);
 //! image.undo(&mut journal)?;
 //! assert_eq!(image.view().unwrap().holding(48, 4), 0);

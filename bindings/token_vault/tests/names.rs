@@ -1,4 +1,4 @@
-//! The names and numbers of the C header and of docs/FORMATS.md are those of the crate.
+//! The names and numbers of the C header and of docs/FORMATS.md are those of the crate, and so are the header's functions.
 use std::collections::BTreeMap;
 use std::fs;
 use token_vault::layout::{self, event, image, journal, record};
@@ -183,6 +183,32 @@ fn refusals_of_the_header() {
         has(format!("case {constant}: return \"{}\";", refusal.name()));
         has(format!("return \"{}\";", refusal.sentence()));
     }
+}
+
+/// A parameter of the header as the crate declares it.
+fn declared(parameter: &str) -> String {
+    if let Some(name) = parameter.strip_prefix("uint8_t ").and_then(|rest| rest.strip_suffix("[16]")) {
+        return format!("{name}: *mut [u8; 16]");
+    }
+    let types = [("const uint8_t *", "*const u8"), ("uint8_t *", "*mut u8"), ("uint32_t *", "*mut u32"), ("size_t ", "usize")];
+    let found = types.iter().find_map(|(in_c, in_rust)| Some(format!("{}: {in_rust}", parameter.strip_prefix(in_c)?)));
+    found.unwrap_or_else(|| panic!("a parameter of another type: {parameter}"))
+}
+
+/// The functions that stand behind a mark, each with its parameters.
+fn functions(text: &str, mark: &str) -> BTreeMap<String, Vec<String>> {
+    let signatures = text.split(mark).skip(1).filter_map(|rest| rest.split_once(')')?.0.split_once('('));
+    let parameters = |list: &str| list.split(',').map(|parameter| parameter.trim().to_string()).filter(|p| !p.is_empty()).collect();
+    signatures.map(|(name, list)| (name.to_string(), parameters(list))).collect()
+}
+
+#[test]
+fn functions_of_the_header() {
+    let in_c = functions(&header(), "\nuint32_t token_vault_");
+    let in_rust = functions(&read("src/exports.rs"), "pub fn token_vault_");
+    assert_eq!(in_c.len(), 7);
+    let in_c = in_c.into_iter().map(|(name, parameters)| (name, parameters.iter().map(|p| declared(p)).collect()));
+    assert_eq!(in_c.collect::<BTreeMap<_, _>>(), in_rust);
 }
 
 #[test]

@@ -24,9 +24,7 @@ pub fn command(mut arguments: Arguments, out: &mut dyn Write) -> Result<End, Fai
     if answer.is_done() {
         files.store(&vault)?;
     }
-    writeln!(out, "{answer}")?;
-    print_events(&answer, out)?;
-    Ok(if answer.is_done() { End::Done } else { End::Refused })
+    print_answer(&answer, out)
 }
 
 /// How many entries a journal gets that is made because its file is not there.
@@ -41,6 +39,12 @@ pub fn entries(arguments: &mut Arguments, journal: Option<&str>) -> Result<usize
         }
         _ => Ok(entries),
     }
+}
+
+pub fn print_answer(answer: &Answer, out: &mut dyn Write) -> Result<End, Failure> {
+    writeln!(out, "{answer}")?;
+    print_events(answer, out)?;
+    Ok(if answer.is_done() { End::Done } else { End::Refused })
 }
 
 pub fn print_events(answer: &Answer, out: &mut dyn Write) -> Result<(), Failure> {

@@ -48,13 +48,12 @@ pub struct Vault {
 
 impl Vault {
     pub fn make(&mut self, call: &Call) -> Answer {
-        let result = match call {
-            Call::Operation(_, record) => self.operate(record),
-            Call::Transaction(transaction) => self.transact(*transaction).map(|()| Done { value: 0, events: Vec::new() }),
-        };
-        match result {
-            Ok(done) => Answer::Done { value: call.value_in_words(done.value), events: done.events },
-            Err(refusal) => Answer::Refused(refusal),
+        match call {
+            Call::Operation(operation, record) => Answer::of(*operation, self.operate(record)),
+            Call::Transaction(transaction) => match self.transact(*transaction) {
+                Ok(()) => Answer::Done { value: None, events: Vec::new() },
+                Err(refusal) => Answer::Refused(refusal),
+            },
         }
     }
 
@@ -84,6 +83,14 @@ pub enum Answer {
 }
 
 impl Answer {
+    /// What an operation, called or previewed, gave.
+    pub fn of(operation: Operation, result: Result<Done, Refusal>) -> Answer {
+        match result {
+            Ok(done) => Answer::Done { value: value_in_words(operation, done.value), events: done.events },
+            Err(refusal) => Answer::Refused(refusal),
+        }
+    }
+
     pub fn is_done(&self) -> bool {
         matches!(self, Answer::Done { .. })
     }
@@ -126,34 +133,39 @@ pub fn value_of(operation: Operation) -> Value {
     }
 }
 
+fn value_in_words(operation: Operation, value: i128) -> Option<String> {
+    match value_of(operation) {
+        Value::Nothing => None,
+        Value::Number => Some(value.to_string()),
+        Value::YesOrNo => Some(if value == 1 { "yes" } else { "no" }.to_string()),
+    }
+}
+
 impl Call {
     /// The call that has this name, with the options that are left.
     pub fn read(name: &str, options: &mut Arguments) -> Result<Call, String> {
-        if let Some(transaction) = Transaction::from_name(name) {
-            return match options.options().first() {
-                Some(given) => Err(unread(name, given)),
-                None => Ok(Call::Transaction(transaction)),
-            };
-        }
-        let operation = Operation::from_name(name).ok_or(format!("there is no operation '{name}' (vault call --help lists them)"))?;
-        let read = read_by(operation);
-        match options.options().iter().find(|given| !read.iter().any(|read| read.names.contains(&given.name.as_str()))) {
+        let Some(transaction) = Transaction::from_name(name) else {
+            let (operation, record) = read_operation(name, options)?;
+            return Ok(Call::Operation(operation, Box::new(record)));
+        };
+        match options.options().first() {
             Some(given) => Err(unread(name, given)),
-            None => Ok(Call::Operation(operation, Box::new(Reader { operation, read, options }.record()?))),
+            None => Ok(Call::Transaction(transaction)),
         }
     }
 
     pub fn is_transaction(&self) -> bool {
         matches!(self, Call::Transaction(_))
     }
+}
 
-    fn value_in_words(&self, value: i128) -> Option<String> {
-        let Call::Operation(operation, _) = self else { return None };
-        match value_of(*operation) {
-            Value::Nothing => None,
-            Value::Number => Some(value.to_string()),
-            Value::YesOrNo => Some(if value == 1 { "yes" } else { "no" }.to_string()),
-        }
+/// The operation that has this name, and its record with the options that are left.
+pub fn read_operation(name: &str, options: &mut Arguments) -> Result<(Operation, Record), String> {
+    let operation = Operation::from_name(name).ok_or(format!("there is no operation '{name}' (vault call --help lists them)"))?;
+    let read = read_by(operation);
+    match options.options().iter().find(|given| !read.iter().any(|read| read.names.contains(&given.name.as_str()))) {
+        Some(given) => Err(unread(name, given)),
+        None => Ok((operation, Reader { operation, read, options }.record()?)),
     }
 }
 

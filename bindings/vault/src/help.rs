@@ -10,6 +10,7 @@ vault keeps a token vault in a file, its image, and makes calls on it.
 
   vault new IMAGE --token TOKEN ...   makes an image
   vault call IMAGE OPERATION ...      makes one call
+  vault preview IMAGE OPERATION ...   shows what a call would answer
   vault run IMAGE FILE                makes the calls of a file, one a line
   vault show IMAGE                    shows what an image holds
   vault explain [WORD]                explains a refusal or an operation
@@ -59,6 +60,20 @@ place where the call was done, drops it where it was not, and says so.
 Commands on images of one folder wait for each other.
 ";
 
+const PREVIEW: &str = "\
+vault preview IMAGE OPERATION [OPTION ...]
+
+Prints the answer and the events that vault call would give with no journal, ends with
+the same exit status, and writes nothing. Operations and options are those of vault call
+(vault call --help); begin, commit, rollback and undo have no preview.
+
+  vault preview my.image withdraw --caller 2 --to 4 --amount 40
+
+There is no --journal, as a preview neither reads nor fills one. The same call, made next,
+gives the previewed answer, while a transaction is open too, unless the journal is not good
+(31) or has no room for the call (34).
+";
+
 const SHOW: &str = "\
 vault show IMAGE [--journal FILE]
 
@@ -102,6 +117,7 @@ pub fn of(command: &str) -> String {
     match command {
         "new" => NEW.to_string(),
         "call" => format!("{CALL}\nOperations and their options:\n\n{}", operations()),
+        "preview" => PREVIEW.to_string(),
         "show" => SHOW.to_string(),
         "run" => RUN.to_string(),
         "explain" => EXPLAIN.to_string(),

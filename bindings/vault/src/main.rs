@@ -1,4 +1,4 @@
-//! The token vault on the command line: images, calls, transactions and vectors. `vault --help` says more.
+//! The token vault on the command line: images, calls, previews, transactions and vectors. `vault --help` says more.
 #![forbid(unsafe_code)]
 
 mod arguments;
@@ -14,6 +14,7 @@ mod help;
 mod new;
 mod numbers;
 mod places;
+mod preview;
 mod replay;
 mod run;
 mod show;
@@ -28,9 +29,10 @@ use std::process::ExitCode;
 
 type Command = fn(Arguments, &mut dyn Write) -> Result<End, Failure>;
 
-const COMMANDS: [(&str, Command); 6] = [
+const COMMANDS: [(&str, Command); 7] = [
     ("new", new::command),
     ("call", call::command),
+    ("preview", preview::command),
     ("show", show::command),
     ("run", run::command),
     ("explain", explain::command),

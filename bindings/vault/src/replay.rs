@@ -122,9 +122,13 @@ fn answers<'a>(list: &'a List) -> impl Iterator<Item = String> + 'a {
     list.calls.iter().map(move |call| {
         let (mut value, mut count, mut events) = ([0; 16], 0, Vec::new());
         let number = match call {
-            Vector::Operation { record, fill, events_length } => {
-                events = vec![*fill; *events_length];
-                exports::call(&mut image.bytes, &mut journal.bytes, record, &mut events, &mut value, &mut count)
+            Vector::Operation(lent) => {
+                events = lent.events();
+                exports::call(&mut image.bytes, &mut journal.bytes, lent.record, &mut events, &mut value, &mut count)
+            }
+            Vector::Preview(lent) => {
+                events = lent.events();
+                exports::preview(&image.bytes, lent.record, &mut events, &mut value, &mut count)
             }
             Vector::Transaction(transaction) => transact(*transaction, &mut image.bytes, &mut journal.bytes),
         };
@@ -187,10 +191,11 @@ mod tests {
             for (call, line) in list.calls.iter().zip(answers(&list)) {
                 let name = match call {
                     Vector::Transaction(transaction) => transaction.name(),
-                    Vector::Operation { record, .. } => match record.first().and_then(|n| Operation::from_number(*n)) {
-                        Some(operation) if record.len() == 448 => operation.name(),
+                    Vector::Operation(lent) => match lent.record.first().and_then(|n| Operation::from_number(*n)) {
+                        Some(operation) if lent.record.len() == 448 => operation.name(),
                         _ => continue,
                     },
+                    Vector::Preview(_) => continue,
                 };
                 let number = fields(&line).expect("an answer")[0].parse().expect("a number");
                 pairs.entry(name.to_string()).or_default().insert(number);

@@ -16,19 +16,41 @@ pub struct List<'a> {
 }
 
 pub enum Vector<'a> {
-    Operation { record: &'a [u8], fill: u8, events_length: usize },
+    Operation(Lent<'a>),
+    Preview(Lent<'a>),
     Transaction(Transaction),
+}
+
+/// What an operation or its preview is lent: a record, and an event buffer full of one byte.
+pub struct Lent<'a> {
+    pub record: &'a [u8],
+    fill: u8,
+    events_length: usize,
+}
+
+impl Lent<'_> {
+    pub fn events(&self) -> Vec<u8> {
+        vec![self.fill; self.events_length]
+    }
 }
 
 /// The call in words.
 impl fmt::Display for Vector<'_> {
     fn fmt(&self, f: &mut fmt::Formatter<'_>) -> fmt::Result {
         match self {
+            Vector::Operation(lent) => write!(f, "{lent}"),
+            Vector::Preview(lent) => write!(f, "preview of {lent}"),
             Vector::Transaction(transaction) => write!(f, "{}", transaction.name()),
-            Vector::Operation { record, events_length: 896, .. } => write!(f, "{}", describe::record(record)),
-            Vector::Operation { record, events_length, .. } => {
-                write!(f, "{}, with an event buffer of {events_length} bytes", describe::record(record))
-            }
+        }
+    }
+}
+
+impl fmt::Display for Lent<'_> {
+    fn fmt(&self, f: &mut fmt::Formatter<'_>) -> fmt::Result {
+        write!(f, "{}", describe::record(self.record))?;
+        match self.events_length {
+            896 => Ok(()),
+            length => write!(f, ", with an event buffer of {length} bytes"),
         }
     }
 }
@@ -108,11 +130,13 @@ impl<'a> Reader<'a> {
         let record = self.within(at + 2, number(&head[2..4]), MOST_RECORD, "the record")?;
         let events_length = self.within(at + 4, number(&head[4..6]), MOST_EVENTS, "the event buffer")?;
         self.zero(at + 6, number(&head[6..8]), "the end of the call's head")?;
-        if head[0] == 0 {
-            return Ok(Vector::Operation { record: self.take(record, "the record")?, fill: head[1], events_length });
-        }
-        let kind = usize::from(head[0] - 1);
-        let transaction = Transaction::ALL.get(kind).ok_or_else(|| self.wrong(at, format!("there is no call of kind {}", head[0])))?;
+        let mut lent = || Ok(Lent { record: self.take(record, "the record")?, fill: head[1], events_length });
+        let transaction = match head[0] {
+            0 => return lent().map(Vector::Operation),
+            5 => return lent().map(Vector::Preview),
+            kind => Transaction::ALL.get(usize::from(kind - 1)),
+        };
+        let transaction = transaction.ok_or_else(|| self.wrong(at, format!("there is no call of kind {}", head[0])))?;
         self.zero(at + 2, record, &format!("the length of the record of {}", transaction.name()))?;
         self.zero(at + 4, events_length, &format!("the length of the event buffer of {}", transaction.name()))?;
         Ok(Vector::Transaction(*transaction))

@@ -3,8 +3,9 @@
 //!
 //! A line `$ vault ...` is a command; the lines up to the next command or comment are its standard output, then its
 //! standard error, then `[exit N]` where the exit status is not 0. Lines that begin with # are comments. Beside vault
-//! there are: cp FROM TO; damage FILE OFFSET BYTE, which changes a byte; truncate FILE LENGTH, which also makes longer,
-//! with zeros; write FILE TEXT, in which \n is a line feed; and ls, which prints the names of all files.
+//! there are: cp FROM TO; cmp FILE FILE, which prints whether they are the same; damage FILE OFFSET BYTE, which changes a
+//! byte; truncate FILE LENGTH, which also makes longer, with zeros; write FILE TEXT, in which \n is a line feed; and ls,
+//! which prints the names of all files.
 #![forbid(unsafe_code)]
 
 use std::fs;
@@ -50,6 +51,7 @@ fn run(folder: &Path, command: &str) -> Vec<String> {
     match words[0] {
         "vault" => return run_vault(folder, &words[1..]),
         "cp" => fs::write(file(2), fs::read(file(1)).expect("a file")).expect("a copy"),
+        "cmp" => return vec![compared(&file(1), &file(2)).to_string()],
         "damage" => change(&file(1), |bytes| bytes[number(2)] = number(3) as u8),
         "truncate" => change(&file(1), |bytes| bytes.resize(number(2), 0)),
         "write" => write(&file(1), command.splitn(3, ' ').nth(2).expect("a text")),
@@ -57,6 +59,13 @@ fn run(folder: &Path, command: &str) -> Vec<String> {
         other => panic!("there is no helper {other}"),
     }
     Vec::new()
+}
+
+fn compared(one: &Path, other: &Path) -> &'static str {
+    match fs::read(one).expect("a file") == fs::read(other).expect("a file") {
+        true => "the same",
+        false => "different",
+    }
 }
 
 fn change(path: &Path, edit: impl FnOnce(&mut Vec<u8>)) {
