@@ -6,7 +6,8 @@ usage() {
     cat <<'END'
 compare/run.sh [--calls N] [--seed S] [--jobs J] [--partial]
     the whole comparison: the vectors made again, the calls of the benchmark, planted mistakes, the program's lines, then at least
-    N calls (2000000) from the seed S (1) on J threads (2); --partial: a pair of operation and answer that was not reached is no failure
+    N calls (2000000) from the seed S (1) on J threads (2), one operation in four previewed first; --partial: a pair of operation and
+    answer, of a call or a preview, that was not reached is no failure
 compare/run.sh --scenario N [--seed S]
     one scenario of the run alone
 compare/run.sh --vectors FOLDER [--seed S]
@@ -16,7 +17,7 @@ compare/run.sh --program [--seed S] [--partial]
 compare/run.sh --self-test [--seed S] [--calls N]
     planted mistakes alone; each has to be found within N calls (400000)
 compare/run.sh --bench
-    times the vault beside the contract's Rust (docs/PERFORMANCE.md)
+    times the vault, its previews too, beside the contract's Rust (docs/PERFORMANCE.md)
 compare/run.sh --bench-cells [--seed S]
     times the two ways to find the changed cells of a call, by words and by bytes (docs/PERFORMANCE.md)
 compare/run.sh --help

@@ -64,6 +64,14 @@ fn operation(record: Vec<u8>) -> Call {
     Call::Operation { record, events: vec![0; EVENTS_LENGTH] }
 }
 
+/// The preview of an operation, in place of its call.
+fn previewed(call: Call) -> Call {
+    match call {
+        Call::Operation { record, events } => Call::Preview { record, events },
+        other => other,
+    }
+}
+
 pub fn owner(operation: u8) -> Fields {
     Fields { operation, caller: OWNER, token: TOKEN, sequence: 7, ..Fields::default() }
 }
@@ -135,17 +143,21 @@ fn long_transaction() -> Vec<Call> {
 pub fn all() -> Vec<Case> {
     let alone = |name, calls| Case { name, journal: None, before: Vec::new(), calls };
     let journal = || Some(vec![0; JOURNAL_LENGTH_MAX]);
-    let view = operation(record(owner(24)));
+    let view = || operation(record(owner(24)));
     let migrations = [7, 8].into_iter().flat_map(|sequence| migration(sequence, PAYEE, 1)).map(operation).collect();
     vec![
         alone("deposit, accepted, no journal", vec![deposit(1)]),
+        alone("deposit, accepted, previewed", vec![previewed(deposit(1))]),
         alone("deposit then withdraw, accepted, no journal", vec![deposit(1), withdraw()]),
         alone("16 deposits in a batch, no journal", vec![batch_of_ones(4)]),
         alone("16 payouts in a batch, no journal", vec![batch_of_ones(6)]),
+        alone("16 payouts in a batch, previewed", vec![previewed(batch_of_ones(6))]),
         alone("deposit, migration initiated and executed", migrations),
         alone("settings: operations 10 to 21 and 23 in turn", settings()),
         alone("deposit, refused (4), no journal", vec![deposit(0)]),
-        alone("balance, no journal", vec![view]),
+        alone("deposit, refused (4), previewed", vec![previewed(deposit(0))]),
+        alone("balance, no journal", vec![view()]),
+        alone("balance, previewed", vec![previewed(view())]),
         Case { journal: Some(Vec::new()), ..alone("begin with no bytes as journal (31): the image test", vec![Call::Begin]) },
         Case {
             journal: journal(),

@@ -7,6 +7,7 @@ mod sides;
 
 use cases::Case;
 use sides::{Answer, Side};
+use std::hint::black_box;
 use std::process::exit;
 use std::time::{Duration, Instant};
 
@@ -41,6 +42,8 @@ fn main() {
         _ => {
             head();
             run(images, true);
+            println!("no call");
+            println!("  {:52}{:8.2}", "one copy of an image, by the C library's memcpy", copy_time(&full));
             println!("the best of all rounds of {} ms, the sides in turn, for {} ms a case", ROUND.as_millis(), CASE.as_millis());
         }
     }
@@ -117,6 +120,22 @@ fn round(case: &Case, side: &mut dyn Side, answers: &[Answer]) -> f64 {
         }
         times = (2 * times).min(32);
     }
+}
+
+/// Microseconds that one copy of an image takes: the best of rounds.
+fn copy_time(image: &[u8]) -> f64 {
+    let mut copy = image.to_vec();
+    let mut best = f64::MAX;
+    let start = Instant::now();
+    while start.elapsed() < CASE {
+        let (round, mut times) = (Instant::now(), 0);
+        while round.elapsed() < ROUND {
+            (0..32).for_each(|_| black_box(&mut copy[..]).copy_from_slice(black_box(image)));
+            times += 32;
+        }
+        best = best.min(round.elapsed().as_secs_f64() * 1e6 / times as f64);
+    }
+    best
 }
 
 fn head() {

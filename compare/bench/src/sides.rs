@@ -26,7 +26,7 @@ pub trait Side {
     fn held(&self) -> Held<'_>;
 }
 
-/// The three, from one image; with no journal, only operations are called.
+/// The three, from one image; with no journal, only operations and previews are called.
 pub fn all(image: &[u8], journal: Option<&[u8]>) -> [Box<dyn Side>; 3] {
     let start = Vault { image: image.to_vec(), journal: journal.unwrap_or(&[0; 48]).to_vec() };
     let with_journal = journal.is_some();
@@ -65,6 +65,13 @@ impl Library {
         };
         Answer { number, value: i128::from_le_bytes(value), events: count }
     }
+
+    fn preview(&mut self, record: &[u8]) -> Answer {
+        let mut value = [0; 16];
+        let mut count = 0;
+        let number = exports::preview(&self.vault.image, record, &mut self.events, &mut value, &mut count);
+        Answer { number, value: i128::from_le_bytes(value), events: count }
+    }
 }
 
 impl Side for Library {
@@ -72,6 +79,7 @@ impl Side for Library {
         let Vault { image, journal } = &mut self.vault;
         match called {
             Call::Operation { record, .. } => self.operation(record),
+            Call::Preview { record, .. } => self.preview(record),
             Call::Begin => plain(exports::begin(image, journal)),
             Call::Commit => plain(exports::commit(image, journal)),
             Call::Rollback => plain(exports::rollback(image, journal)),
@@ -98,7 +106,7 @@ impl Side for NewHost {
             Done { number: done.number, value: done.value, events: done.events, image: done.image.unwrap_or_default() }
         };
         let answer = self.vault.call(called, &mut operate);
-        if matches!(called, Call::Operation { .. }) {
+        if matches!(called, Call::Operation { .. } | Call::Preview { .. }) {
             self.events = answer.events;
         }
         Answer { number: answer.number, value: answer.value, events: answer.count }
@@ -140,10 +148,26 @@ impl KeptHost {
         } else {
             self.host.store(&done.changes, image);
         }
-        for (place, event) in self.events.chunks_mut(56).zip(&done.events) {
+        self.done(done.value, &done.events)
+    }
+
+    /// An operation in the host that is taken back; the image stays.
+    fn preview(&mut self, record: &[u8]) -> Answer {
+        self.events.fill(0);
+        match self.host.operation(record) {
+            Ok(done) => {
+                self.host.take_back(done.changes);
+                self.done(done.value, &done.events)
+            }
+            Err(number) => plain(number),
+        }
+    }
+
+    fn done(&mut self, value: i128, events: &[[u8; 56]]) -> Answer {
+        for (place, event) in self.events.chunks_mut(56).zip(events) {
             place.copy_from_slice(event);
         }
-        Answer { number: 0, value: done.value, events: done.events.len() as u32 }
+        Answer { number: 0, value, events: events.len() as u32 }
     }
 
     fn transaction(&mut self, called: &Call) -> u32 {
@@ -164,8 +188,13 @@ impl KeptHost {
 
 impl Side for KeptHost {
     fn call(&mut self, called: &Call) -> Answer {
-        match (self.vault.first_refusal(called), called) {
+        let refusal = match called {
+            Call::Preview { record, events } => self.vault.preview_refusal(record, events),
+            _ => self.vault.first_refusal(called),
+        };
+        match (refusal, called) {
             (0, Call::Operation { record, .. }) => self.operation(record),
+            (0, Call::Preview { record, .. }) => self.preview(record),
             (0, _) => plain(self.transaction(called)),
             (number, _) => plain(number),
         }

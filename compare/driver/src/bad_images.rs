@@ -1,7 +1,7 @@
 //! Vectors of images: for each rule of a good image one that breaks it alone, and good images at the edge of the rules.
 use crate::change::{accepted, MOST, OPERATOR};
 use crate::directed::call;
-use crate::start_image::{nothing_pending, plain};
+use crate::start_image::{nothing_pending, plain, uninitialised};
 use crate::vectors::List;
 use model::bytes::{put, put_amount};
 use model::image::{cap_at, credit_at, good, holding_at, snapshot_at, token_at, toll_at, LENGTH, TRACKED};
@@ -12,12 +12,6 @@ const MOVING: usize = 49;
 const FROZEN: usize = 52;
 const ABSENT: usize = 63;
 const KEYS: usize = 1504;
-
-fn uninitialised() -> Vec<u8> {
-    let mut image = plain();
-    image[..3680].fill(0);
-    image
-}
 
 /// Neither operator nor operator limit, no owner proposed, no migration.
 fn bare() -> Vec<u8> {

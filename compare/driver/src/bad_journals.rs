@@ -34,7 +34,7 @@ fn with(change: fn(&mut Vec<u8>)) -> Vec<u8> {
     bytes
 }
 
-fn bad() -> Vec<Vec<u8>> {
+pub fn bad() -> Vec<Vec<u8>> {
     let (cell, next) = (free_cell(), free_cell() + 1);
     vec![
         vec![0; ENTRY],
@@ -79,7 +79,7 @@ fn view() -> Call {
 }
 
 /// All calls used, or all entries; calls without entries; old bytes of which an image comes that is not good.
-fn full() -> Vec<(Vec<u8>, Vec<Call>)> {
+pub fn full() -> Vec<(Vec<u8>, Vec<Call>)> {
     let cell = free_cell();
     let last = CELLS as u16 - 1;
     let counted = vec![no_change(), one_cell(), view(), Call::Begin, Call::Undo, no_change(), no_change(), Call::Undo, one_cell()];

@@ -2,13 +2,17 @@
 use model::vault::{Answer, Call, Vault};
 use token_vault::exports;
 
-/// Makes a call at the vault. Without a journal, only operations.
+/// Makes a call at the vault. Without a journal, only operations and previews.
 pub fn call(vault: &mut Vault, call: &Call, with_journal: bool) -> Answer {
     let journal = with_journal.then_some(&mut vault.journal[..]);
     match call {
         Call::Operation { record, events } => {
             let mut events = events.clone();
             operation(&mut vault.image, journal, record, &mut events).answer(events)
+        }
+        Call::Preview { record, events } => {
+            let mut events = events.clone();
+            preview(&vault.image, record, &mut events).answer(events)
         }
         _ => plain(transaction(&mut vault.image, &mut vault.journal, call)),
     }
@@ -20,11 +24,15 @@ pub fn call_fenced(vault: &mut Vault, call: &Call, with_journal: bool) -> (Answe
     let mut image = Fenced::of(&vault.image);
     let mut journal = Fenced::of(&vault.journal);
     let (answer, whole) = match call {
-        Call::Operation { record, events } => {
+        Call::Operation { record, events } | Call::Preview { record, events } => {
             let mut buffer = Fenced::of(events);
             let lent = Fenced::of(record);
+            let bytes = &lent.0[FENCE..lent.0.len() - FENCE];
             let given = with_journal.then_some(journal.list());
-            let numbers = operation(image.list(), given, &lent.0[FENCE..lent.0.len() - FENCE], buffer.list());
+            let numbers = match call {
+                Call::Preview { .. } => preview(image.list(), bytes, buffer.list()),
+                _ => operation(image.list(), given, bytes, buffer.list()),
+            };
             let whole = buffer.whole() && lent.0 == Fenced::of(record).0;
             (numbers.answer(buffer.list().to_vec()), whole)
         }
@@ -71,14 +79,22 @@ fn plain(number: u32) -> Answer {
     Answer { number, value: 0, count: 0, events: Vec::new() }
 }
 
+/// Bytes that a call must write over.
+const VALUE: [u8; 16] = [0xa5; 16];
+const COUNT: u32 = 0xa5a5_a5a5;
+
 fn operation(image: &mut [u8], journal: Option<&mut [u8]>, record: &[u8], events: &mut [u8]) -> Numbers {
-    // Bytes that a call must write over.
-    let mut value = [0xa5; 16];
-    let mut count = 0xa5a5_a5a5;
+    let (mut value, mut count) = (VALUE, COUNT);
     let number = match journal {
         Some(journal) => exports::call(image, journal, record, events, &mut value, &mut count),
         None => exports::call_without_journal(image, record, events, &mut value, &mut count),
     };
+    Numbers { number, value, count }
+}
+
+fn preview(image: &[u8], record: &[u8], events: &mut [u8]) -> Numbers {
+    let (mut value, mut count) = (VALUE, COUNT);
+    let number = exports::preview(image, record, events, &mut value, &mut count);
     Numbers { number, value, count }
 }
 
@@ -88,6 +104,6 @@ fn transaction(image: &mut [u8], journal: &mut [u8], call: &Call) -> u32 {
         Call::Commit => exports::commit(image, journal),
         Call::Rollback => exports::rollback(image, journal),
         Call::Undo => exports::undo(image, journal),
-        Call::Operation { .. } => unreachable!("an operation is no transaction call"),
+        Call::Operation { .. } | Call::Preview { .. } => unreachable!("an operation is no transaction call"),
     }
 }

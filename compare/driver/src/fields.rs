@@ -46,7 +46,7 @@ fn unread() -> Call {
     call(record)
 }
 
-fn lengths() -> Vec<Call> {
+pub fn lengths() -> Vec<Call> {
     let sized = |length: usize, events: usize| {
         let mut record = accepted(2);
         record.resize(length, 0);
@@ -58,18 +58,22 @@ fn lengths() -> Vec<Call> {
     vec![sized(LENGTH - 1, 896), sized(LENGTH + 1, 896), sized(LENGTH, 895), sized(LENGTH, 897), sized(LENGTH + 1, 897), both]
 }
 
-/// One list from the plain image; what is accepted is undone.
-pub fn lists() -> Vec<List> {
+pub fn tried() -> Vec<Call> {
     let mut tried: Vec<Call> = (1..=OPERATIONS).flat_map(of_operation).collect();
     tried.extend([4, 6].into_iter().flat_map(of_items));
     tried.extend([0, OPERATIONS + 1, 255].map(|operation| with(2, 0, operation)));
     tried.push(unread());
     tried.extend(lengths());
+    tried
+}
+
+/// One list from the plain image; what is accepted is undone.
+pub fn lists() -> Vec<List> {
     let start = Vault { image: plain(), journal: vec![0; 24 * 41] };
     let mut open = start.clone();
     open.call(&Call::Begin, &mut operate);
     let mut calls = vec![Call::Begin];
-    for call in tried {
+    for call in tried() {
         let accepted = open.clone().call(&copy(&call), &mut operate).number == 0;
         let is_operation = matches!(&call, Call::Operation { record, .. } if !is_view(record[0]));
         calls.push(call);

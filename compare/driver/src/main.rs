@@ -9,6 +9,7 @@ mod ffi;
 mod fields;
 mod generate;
 mod mistake;
+mod previews;
 mod program;
 mod scenario;
 mod situation;
@@ -19,6 +20,7 @@ mod table;
 mod vectors;
 mod wrong_program;
 
+use model::vault::Call;
 use scenario::{Failure, Run};
 use std::panic::{catch_unwind, resume_unwind, AssertUnwindSafe};
 use std::path::PathBuf;
@@ -46,7 +48,7 @@ const USAGE: &str = "driver [--calls N] [--seed S] [--jobs J] [--scenario N] [--
   --program     compare the lines of the program (VAULT_PROGRAM, or target/bin/token_vault_main) on streams of records;
                 then wrong programs on the same, each of which has to be found
   --self-test   plant mistakes in the Rust side's outcome; each has to be found
-  --partial     a pair of operation and answer that was not reached is no failure";
+  --partial     a pair of operation and answer, of a call or a preview, that was not reached is no failure";
 
 fn usage() -> ! {
     eprintln!("{USAGE}");
@@ -100,13 +102,16 @@ fn main() {
             report(o.seed, &failure);
             exit(1);
         }
-        println!("scenario {n}: {} calls, no difference", run.calls);
+        println!("scenario {n}: {} calls and {} previews, no difference", run.calls, run.previews.all());
         return;
     }
     cases::run();
     let start = Instant::now();
     match sweep::run(o.seed) {
-        Ok(calls) => println!("{calls} calls on changed bytes and lengths, {:.1} s", start.elapsed().as_secs_f64()),
+        Ok(made) => {
+            let seconds = start.elapsed().as_secs_f64();
+            println!("{} calls and {} previews on changed bytes and lengths, {seconds:.1} s", made.calls, made.previews)
+        }
         Err(difference) => {
             println!("DIFFERENCE, seed {}: {difference}", o.seed);
             exit(1);
@@ -120,21 +125,25 @@ fn main() {
     }
     let seconds = start.elapsed().as_secs_f64();
     run.table.print();
+    println!("previews:");
+    run.previews.print();
     run.situations.print();
     println!(
-        "seed {}: {} calls in {scenarios} scenarios ({} lists, {} kept calls at a second vault), {:.0} calls a second, 0 differences",
+        "seed {}: {} calls and {} previews in {scenarios} scenarios ({} lists, {} kept calls at a second vault), {:.0} calls a second, \
+         0 differences",
         o.seed,
         run.calls,
+        run.previews.all(),
         run.lists,
         run.kept,
         run.calls as f64 / seconds
     );
-    let unexpected = run.table.unexpected();
+    let unexpected = [run.table.unexpected(), run.previews.unexpected()].concat();
     if !unexpected.is_empty() {
         println!("not in docs/FORMATS.md: {}", unexpected.join(", "));
         exit(1);
     }
-    let missing = [run.table.missing(), run.situations.missing()].concat();
+    let missing = [run.table.missing(), run.previews.missing(), run.situations.missing()].concat();
     if !missing.is_empty() && !o.partial {
         println!("not reached: {}", missing.join(", "));
         exit(1);
@@ -242,6 +251,9 @@ fn report(seed: u64, f: &Failure) {
     if f.before.image.is_empty() {
         println!("below, \"rust\" is the second vault, which got the kept list");
     }
+    if d.what == compare::AFTER_PREVIEW {
+        println!("below, the answer of \"rust\" is that of the vault's preview");
+    }
     for (name, a) in [("vault", &d.vault_answer), ("rust ", &d.rust_answer)] {
         println!("{name} number {} value {} count {}", a.number, a.value, a.count);
     }
@@ -265,10 +277,11 @@ fn report(seed: u64, f: &Failure) {
     cells(&start.image, None);
 }
 
-fn print_call(call: &model::vault::Call) {
+fn print_call(call: &Call) {
     match call {
-        model::vault::Call::Operation { record, events } => {
-            println!("operation {:?}, record of {} bytes:", record.first(), record.len());
+        Call::Operation { record, events } | Call::Preview { record, events } => {
+            let of = if matches!(call, Call::Preview { .. }) { "preview of " } else { "" };
+            println!("{of}operation {:?}, record of {} bytes:", record.first(), record.len());
             for (i, row) in record.chunks(32).enumerate() {
                 println!("  {:4}  {}", 32 * i, hex(row));
             }

@@ -1,4 +1,5 @@
 //! Mistakes that are made on purpose in the outcome of the Rust side, to see that the comparison finds them.
+use crate::compare::operate;
 use model::bytes::{amount, get16, put};
 use model::image::{holding_at, snapshot_at};
 use model::journal;
@@ -22,12 +23,18 @@ pub enum Mistake {
     UndoForgetsACell,
     EntryOfAnUnchangedCell,
     WrongTrap,
-    /// Two in the kept list and the book instead.
+    PreviewAnswers31,
+    PreviewAnswers34,
+    PreviewKeepsEvents,
+    PreviewWritesTheImage,
+    PreviewWritesTheJournal,
+    /// Three in the kept list, the book and what a preview says of the call after it instead.
     UndoneCallKept,
     BookWithoutToll,
+    PreviewPromisesRoom,
 }
 
-pub const ALL: [Mistake; 18] = [
+pub const ALL: [Mistake; 24] = [
     Mistake::SkippedTrackedKey,
     Mistake::WrongEventField,
     Mistake::SwappedRefusals,
@@ -44,8 +51,14 @@ pub const ALL: [Mistake; 18] = [
     Mistake::UndoForgetsACell,
     Mistake::EntryOfAnUnchangedCell,
     Mistake::WrongTrap,
+    Mistake::PreviewAnswers31,
+    Mistake::PreviewAnswers34,
+    Mistake::PreviewKeepsEvents,
+    Mistake::PreviewWritesTheImage,
+    Mistake::PreviewWritesTheJournal,
     Mistake::UndoneCallKept,
     Mistake::BookWithoutToll,
+    Mistake::PreviewPromisesRoom,
 ];
 
 impl Mistake {
@@ -53,10 +66,25 @@ impl Mistake {
     pub fn make(self, before: &Vault, call: &Call, answer: &mut Answer, after: &mut Vault) {
         match call {
             Call::Operation { record, events } => self.operation(before, record, events, answer, after),
+            Call::Preview { record, events } => self.preview(before, record, events, answer, after),
             Call::Undo if self == Mistake::UndoForgetsACell && answer.number == 0 && before.image != after.image => {
                 let i = (0..before.image.len()).find(|i| before.image[*i] != after.image[*i]).expect("a changed byte");
                 after.image[i] = before.image[i];
             }
+            _ => {}
+        }
+    }
+
+    /// Previews that see the journal, or do what the call would do.
+    fn preview(self, before: &Vault, record: &[u8], events: &[u8], answer: &mut Answer, after: &mut Vault) {
+        let mut called = before.clone();
+        let given = called.call(&Call::Operation { record: record.to_vec(), events: events.to_vec() }, &mut operate);
+        match self {
+            Mistake::PreviewAnswers31 if given.number == 31 => *answer = given,
+            Mistake::PreviewAnswers34 if given.number == 34 => *answer = given,
+            Mistake::PreviewKeepsEvents if (1..30).contains(&answer.number) => answer.events.copy_from_slice(events),
+            Mistake::PreviewWritesTheImage => after.image = called.image,
+            Mistake::PreviewWritesTheJournal => after.journal = called.journal,
             _ => {}
         }
     }

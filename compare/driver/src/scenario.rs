@@ -1,5 +1,5 @@
 //! Scenarios: each takes its random numbers from the run's seed and its own number.
-use crate::compare::{copy, Difference, Pair};
+use crate::compare::{copy, preview_of, Difference, Pair};
 use crate::ffi;
 use crate::generate;
 use crate::mistake::Mistake;
@@ -9,6 +9,11 @@ use model::kept::{Book, KeptList};
 use model::random::Random;
 use model::vault::{Answer, Call, Vault};
 
+/// The random numbers that say which operations are previewed stand apart from those of scenarios.
+const PREVIEWS: u64 = 1 << 34;
+/// No scenario has more calls.
+const MOST_CALLS: u64 = 64;
+
 pub struct Run {
     pub seed: u64,
     pub mistake: Option<Mistake>,
@@ -16,6 +21,8 @@ pub struct Run {
     pub lists: u64,
     pub kept: u64,
     pub table: Table,
+    /// The answers of previews, which do not count as calls.
+    pub previews: Table,
     pub situations: Situations,
 }
 
@@ -51,7 +58,8 @@ pub fn list_record(r: &mut Random, image: &[u8]) -> Vec<u8> {
 
 impl Run {
     pub fn new(seed: u64, mistake: Option<Mistake>) -> Run {
-        Run { seed, mistake, calls: 0, lists: 0, kept: 0, table: Table::new(), situations: Situations::new() }
+        let (table, previews) = (Table::of_calls(), Table::of_previews());
+        Run { seed, mistake, calls: 0, lists: 0, kept: 0, table, previews, situations: Situations::new() }
     }
 
     pub fn join(&mut self, other: &Run) {
@@ -59,6 +67,7 @@ impl Run {
         self.lists += other.lists;
         self.kept += other.kept;
         self.table.join(&other.table);
+        self.previews.join(&other.previews);
         self.situations.join(&other.situations);
     }
 
@@ -76,28 +85,40 @@ impl Run {
         }
     }
 
+    /// One operation in four.
+    fn is_previewed(&self, scenario: u64, call_number: usize) -> bool {
+        Random::of(self.seed, PREVIEWS + MOST_CALLS * scenario + call_number as u64).percent(25)
+    }
+
+    /// A call at both sides. Where it is an operation that is previewed first, it has to answer as the preview did.
     fn step(&mut self, pair: &mut Pair, scenario: u64, call_number: usize, call: &Call) -> Result<Answer, Box<Failure>> {
-        self.calls += 1;
-        let before = pair.vault.clone();
-        match pair.call(call) {
-            Ok(answer) => {
-                self.table.count(call, answer.number);
-                if let Call::Operation { record, .. } = call {
-                    self.situations.count(&Seen {
-                        before: &before.image,
-                        after: &pair.vault.image,
-                        journal_before: &before.journal,
-                        journal_after: &pair.vault.journal,
-                        record,
-                        answer: &answer,
-                    });
-                }
-                Ok(answer)
-            }
-            Err(difference) => {
-                Err(Box::new(Failure { scenario, call_number, call: copy(call), before, with_journal: pair.with_journal, difference }))
-            }
+        let (before, with_journal) = (pair.vault.clone(), pair.with_journal);
+        let failed = |call: &Call, difference: Difference| {
+            Box::new(Failure { scenario, call_number, call: copy(call), before: before.clone(), with_journal, difference })
+        };
+        let mut previewed = None;
+        if let Some(preview) = preview_of(call).filter(|_| self.is_previewed(scenario, call_number)) {
+            let answer = pair.call(&preview).map_err(|difference| failed(&preview, difference))?;
+            self.previews.count(&preview, answer.number);
+            previewed = Some(answer);
         }
+        self.calls += 1;
+        let mut answer = pair.call(call).map_err(|difference| failed(call, difference))?;
+        if let Some(previewed) = previewed {
+            answer = pair.after_preview(&previewed, answer).map_err(|difference| failed(call, difference))?;
+        }
+        self.table.count(call, answer.number);
+        if let Call::Operation { record, .. } = call {
+            self.situations.count(&Seen {
+                before: &before.image,
+                after: &pair.vault.image,
+                journal_before: &before.journal,
+                journal_after: &pair.vault.journal,
+                record,
+                answer: &answer,
+            });
+        }
+        Ok(answer)
     }
 
     /// Operations one after another, with no journal or a closed one.
@@ -169,7 +190,7 @@ impl Run {
     }
 
     /// Demand 3: a list of calls from a good image and a closed journal. After each call a second vault, which starts from the same two
-    /// and gets only the list that is kept so far, has to hold the same; and before it, it has to answer the call alike.
+    /// and gets only the list that is kept so far and no preview, has to hold the same; and before it, it has to answer the call alike.
     fn list(&mut self, r: &mut Random, scenario: u64) -> Result<(), Box<Failure>> {
         let start = Vault { image: generate::image(r), journal: vec![0; generate::journal_length(r)] };
         let mut pair = Pair::new(start.image.clone(), Some(start.journal.clone()), self.mistake);

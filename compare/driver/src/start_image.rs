@@ -56,6 +56,12 @@ pub fn plain() -> Vec<u8> {
     image
 }
 
+pub fn uninitialised() -> Vec<u8> {
+    let mut image = plain();
+    image[..3680].fill(0);
+    image
+}
+
 /// And a proposal that is good up to the last second that there is.
 fn without_approval(image: &mut [u8]) {
     put(image, 40, &(u64::MAX - 100).to_le_bytes());

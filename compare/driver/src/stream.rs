@@ -70,7 +70,7 @@ pub struct Streams {
 
 impl Streams {
     pub fn of(seed: u64) -> Streams {
-        let mut table = Table::new();
+        let mut table = Table::of_calls();
         let list = plans().into_iter().enumerate().map(|(number, plan)| stream(seed, number, plan, &mut table)).collect();
         Streams { seed, list, table }
     }

@@ -1,4 +1,4 @@
-//! How often each operation gave each number, and which pairs of docs/FORMATS.md have to be reached.
+//! How often each operation, or its preview, gave each number, and which pairs of docs/FORMATS.md have to be reached.
 use model::vault::Call;
 use std::ops::RangeInclusive;
 
@@ -7,7 +7,10 @@ const ROWS: usize = 35;
 
 /// Rows 0 to 30 are operations (0: a record that names none), then begin, commit, rollback, undo.
 #[derive(Clone)]
-pub struct Table([[u64; NUMBERS]; ROWS]);
+pub struct Table {
+    counts: [[u64; NUMBERS]; ROWS],
+    of_previews: bool,
+}
 
 const NAMES: [&str; ROWS] = [
     "no operation",
@@ -86,8 +89,8 @@ fn own(row: usize) -> &'static [usize] {
     }
 }
 
-/// The numbers that a row has to reach: done, its own, and those of every call. Views never answer 34.
-fn wanted(row: usize) -> Vec<usize> {
+/// The numbers that a row of calls has to reach: done, its own, and those of every call. Views never answer 34.
+fn wanted_of_calls(row: usize) -> Vec<usize> {
     let mut numbers = own(row).to_vec();
     match row {
         0 => return vec![30, 31, 32],
@@ -101,13 +104,26 @@ fn wanted(row: usize) -> Vec<usize> {
 }
 
 impl Table {
-    pub fn new() -> Table {
-        Table([[0; NUMBERS]; ROWS])
+    pub fn of_calls() -> Table {
+        Table { counts: [[0; NUMBERS]; ROWS], of_previews: false }
+    }
+
+    pub fn of_previews() -> Table {
+        Table { of_previews: true, ..Table::of_calls() }
+    }
+
+    /// The numbers that a row has to reach: of previews those of the operations that no journal gives.
+    fn wanted(&self, row: usize) -> Vec<usize> {
+        let mut numbers = wanted_of_calls(row);
+        if self.of_previews {
+            numbers.retain(|number| row <= 30 && !matches!(number, 31 | 34));
+        }
+        numbers
     }
 
     pub fn row(call: &Call) -> usize {
         match call {
-            Call::Operation { record, .. } => match record.first() {
+            Call::Operation { record, .. } | Call::Preview { record, .. } => match record.first() {
                 Some(o) if (1..=30).contains(o) => *o as usize,
                 _ => 0,
             },
@@ -123,42 +139,48 @@ impl Table {
     }
 
     pub fn count(&mut self, call: &Call, number: u32) {
-        self.0[Table::row(call)][number as usize] += 1;
+        self.counts[Table::row(call)][number as usize] += 1;
     }
 
     /// Whether docs/FORMATS.md has the pair and it was not reached yet.
     pub fn is_new(&self, call: &Call, number: u32) -> bool {
         let row = Table::row(call);
-        self.0[row][number as usize] == 0 && wanted(row).contains(&(number as usize))
+        self.counts[row][number as usize] == 0 && self.wanted(row).contains(&(number as usize))
     }
 
     /// The operations, of 1 to 30, with a pair that was not reached yet.
     pub fn unfinished(&self) -> Vec<u8> {
-        let open = |row: &usize| wanted(*row).iter().any(|number| self.0[*row][*number] == 0);
+        let open = |row: &usize| self.wanted(*row).iter().any(|number| self.counts[*row][*number] == 0);
         (1..=30).filter(open).map(|row| row as u8).collect()
     }
 
     /// How often the numbers of a range were given.
     pub fn total(&self, numbers: RangeInclusive<usize>) -> u64 {
-        self.0.iter().flat_map(|counts| &counts[numbers.clone()]).sum()
+        self.counts.iter().flat_map(|counts| &counts[numbers.clone()]).sum()
+    }
+
+    /// How many answers there were.
+    pub fn all(&self) -> u64 {
+        self.total(0..=NUMBERS - 1)
     }
 
     /// The operations that were never done, or never refused by a rule of their own where they have one.
     pub fn one_sided(&self) -> Vec<&'static str> {
-        let refused = |row: usize| own(row).is_empty() || own(row).iter().any(|number| self.0[row][*number] > 0);
-        (1..=30).filter(|row| self.0[*row][0] == 0 || !refused(*row)).map(|row| NAMES[row]).collect()
+        let refused = |row: usize| own(row).is_empty() || own(row).iter().any(|number| self.counts[row][*number] > 0);
+        (1..=30).filter(|row| self.counts[*row][0] == 0 || !refused(*row)).map(|row| NAMES[row]).collect()
     }
 
     pub fn join(&mut self, other: &Table) {
-        for (row, counts) in other.0.iter().enumerate() {
+        for (row, counts) in other.counts.iter().enumerate() {
             for (number, count) in counts.iter().enumerate() {
-                self.0[row][number] += count;
+                self.counts[row][number] += count;
             }
         }
     }
 
     pub fn print(&self) {
-        for (row, counts) in self.0.iter().enumerate() {
+        let rows = if self.of_previews { 31 } else { ROWS };
+        for (row, counts) in self.counts[..rows].iter().enumerate() {
             let reached: Vec<String> = (0..NUMBERS).filter(|n| counts[*n] > 0).map(|n| format!("{n}:{}", counts[n])).collect();
             let label = if (1..=30).contains(&row) { row.to_string() } else { String::new() };
             println!("{label:>2} {:<29} {}", NAMES[row], reached.join(" "));
@@ -167,18 +189,19 @@ impl Table {
 
     /// The pairs of docs/FORMATS.md that were not reached.
     pub fn missing(&self) -> Vec<String> {
-        self.pairs(|row, number, count| count == 0 && wanted(row).contains(&number))
+        self.pairs(|row, number, count| count == 0 && self.wanted(row).contains(&number))
     }
 
     /// The pairs that were reached though docs/FORMATS.md does not have them.
     pub fn unexpected(&self) -> Vec<String> {
-        self.pairs(|row, number, count| count > 0 && !wanted(row).contains(&number))
+        self.pairs(|row, number, count| count > 0 && !self.wanted(row).contains(&number))
     }
 
     fn pairs(&self, is: impl Fn(usize, usize, u64) -> bool) -> Vec<String> {
+        let of = if self.of_previews { "preview of " } else { "" };
         let all = (0..ROWS).flat_map(|row| (0..NUMBERS).map(move |number| (row, number)));
-        all.filter(|(row, number)| is(*row, *number, self.0[*row][*number]))
-            .map(|(row, number)| format!("{} {number}", NAMES[row]))
+        all.filter(|(row, number)| is(*row, *number, self.counts[*row][*number]))
+            .map(|(row, number)| format!("{of}{} {number}", NAMES[row]))
             .collect()
     }
 }

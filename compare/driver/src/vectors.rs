@@ -3,7 +3,7 @@ use crate::compare::{copy, operate};
 use crate::scenario::{list_operation, operation};
 use crate::situation::{Seen, Situations};
 use crate::table::Table;
-use crate::{bad_images, bad_journals, cases, directed, fields, generate};
+use crate::{bad_images, bad_journals, cases, directed, fields, generate, previews};
 use model::image::LENGTH;
 use model::random::Random;
 use model::vault::{Answer, Call, Vault};
@@ -24,12 +24,16 @@ const LEAST: [(usize, u64); 6] = [(40, 60), (20, 60), (10, 60), (5, 60), (2, 60)
 const LONG_LISTS: u64 = 4;
 const LONG_LIST: usize = 40;
 
-struct Reached {
+pub struct Reached {
     table: Table,
     situations: Situations,
 }
 
 impl Reached {
+    pub fn nothing() -> Reached {
+        Reached { table: Table::of_calls(), situations: Situations::new() }
+    }
+
     fn missing(&self) -> Vec<String> {
         [self.table.missing(), self.situations.missing()].concat()
     }
@@ -83,7 +87,7 @@ fn any_call(r: &mut Random, image: &[u8], unfinished: &[u8]) -> Call {
 
 fn fits(call: &Call) -> bool {
     match call {
-        Call::Operation { record, events } => {
+        Call::Operation { record, events } | Call::Preview { record, events } => {
             let same = events.iter().all(|b| *b == events[0]);
             record.len() <= MOST_RECORD && events.len() <= MOST_EVENTS && same
         }
@@ -130,7 +134,7 @@ fn new_list(r: &mut Random, reached: &mut Reached) -> List {
 }
 
 /// Calls with transactions, most of them accepted.
-fn long_list(r: &mut Random, reached: &mut Reached) -> List {
+pub fn long_list(r: &mut Random, reached: &mut Reached) -> List {
     let start = Vault { image: generate::image(r), journal: vec![0; 24 * 41] };
     let mut vault = start.clone();
     let mut calls = Vec::new();
@@ -154,7 +158,7 @@ fn long_list(r: &mut Random, reached: &mut Reached) -> List {
 }
 
 /// An image or a journal of a wrong length: 30 and 31, whatever else is wrong.
-fn wrong_length(r: &mut Random, image_length: usize, journal_length: usize) -> List {
+pub fn wrong_length(r: &mut Random, image_length: usize, journal_length: usize) -> List {
     let mut image = generate::image(r);
     let operation =
         |r: &mut Random, operation: u8| Call::Operation { record: generate::record(r, &image, operation), events: vec![9; 896] };
@@ -166,7 +170,7 @@ fn wrong_length(r: &mut Random, image_length: usize, journal_length: usize) -> L
 
 /// Few lists that together reach all.
 fn lists(seed: u64) -> Vec<List> {
-    let mut reached = Reached { table: Table::new(), situations: Situations::new() };
+    let mut reached = Reached::nothing();
     let mut lists = Vec::new();
     for n in 0..LONG_LISTS {
         lists.push(long_list(&mut Random::of(seed, n), &mut reached));
@@ -200,12 +204,13 @@ fn kind(call: &Call) -> u8 {
         Call::Commit => 2,
         Call::Rollback => 3,
         Call::Undo => 4,
+        Call::Preview { .. } => 5,
     }
 }
 
 fn write_call(bytes: &mut Vec<u8>, call: &Call) {
     let (record, events): (&[u8], &[u8]) = match call {
-        Call::Operation { record, events } => (record, events),
+        Call::Operation { record, events } | Call::Preview { record, events } => (record, events),
         _ => (&[], &[]),
     };
     bytes.extend([kind(call), events.first().copied().unwrap_or(0)]);
@@ -234,7 +239,7 @@ fn line(answer: &Answer, vault: &Vault) -> String {
 pub fn write(folder: &Path, seed: u64) -> std::io::Result<()> {
     let (mut bytes, mut lines, mut calls) = (Vec::new(), String::new(), 0);
     let mut lists = lists(seed);
-    for more in [directed::lists(), bad_images::lists(), bad_journals::lists(), fields::lists(), cases::lists()] {
+    for more in [directed::lists(), bad_images::lists(), bad_journals::lists(), fields::lists(), cases::lists(), previews::lists(seed)] {
         lists.extend(more);
     }
     for list in &lists {

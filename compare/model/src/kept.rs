@@ -21,6 +21,7 @@ impl KeptList {
         }
         let is_operation = |kept: &Kept| matches!(kept.call, Call::Operation { .. });
         match &call {
+            Call::Preview { .. } => return,
             Call::Operation { record, .. } if record::is_view(record[0]) => return,
             Call::Undo => {
                 let last = self.0.iter().rposition(is_operation).expect("an operation to undo");
