@@ -26,8 +26,7 @@ use Rattle.handover.specs.Handover.{newOwnerNumber, proposeNumber, proposeOutco
 use Rattle.migration.specs.Migration.{proposalNumber, initiateNumber, initiateOutcome, noMigrationNumber, earlyNumber, executeChecks, migrateNumber, executeNumber, executeOutcome, cancelNumber, cancelOutcome}
 use Rattle.views.specs.Views.{withdrawCapNumber, effectiveNumber, balanceOutcome, effectiveOutcome, accountOutcome, approvedOutcome, compliantNumber, compliantOutcome}
 use Rattle.moves.specs.Outside.{senderNumber, outsideMoveChecks, outsideMoveNumber, outsideMoveOutcome, freezeNumber, freezeOutcome}
-use Rattle.operations.specs.Operations.{operations, outcomeOf}
-use Rattle.operations.specs.Operations.{isOwn}
+use Rattle.operations.specs.Operations.{operations, outcomeOf, isOwn}
 use Rattle.operations.proofs.Owed.{chosen, operations-consecutive}
 
 by-rules : (rs : List Rule) → codesIn isOwn rs ≡ true → isOwn (verdict rs) ≡ true

@@ -143,7 +143,7 @@ answers s c =
     (stopped s c 30 (lent c) refl (lent-30 c))
 
 -- ---- a closed journal
-closed-outcome : (a v f : Bool) (l z j : List ℕ) (d : Done) → outcome a v false f (vault l z) d j ≡ record { answer = d .answer; state = vault (pick a (pick v l (d .image)) l) z }
+pub closed-outcome : (a v f : Bool) (l z j : List ℕ) (d : Done) → outcome a v false f (vault l z) d j ≡ record { answer = d .answer; state = vault (pick a (pick v l (d .image)) l) z }
 unfolding outcome
 closed-outcome false v f l z j d = refl
 closed-outcome true true f l z j d = refl

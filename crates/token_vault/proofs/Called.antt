@@ -173,13 +173,19 @@ module _ (l m j : List ℕ) {k : ℕ} {x y : List ℕ} (h : Keeps l m j k x y) (
           let ye : y ≡ j = h .entered ∙ rw e in
           rw (xe, ye) (operated-closed cells (vault l j) d z e)
 
--- ---- a call that stops with a number, and changes nothing
-pub stops : {s : Step} {a : Answer} {l j v : List ℕ} (k : ℕ) (e : List ℕ) → s ≡ reply k e (vault l j) → (a .number ≡ k) × (biased (a .value) ≡ bias) × (a .events ≡ 0) → v ≡ e → Replies s a v l j
-stops k e p d w = rw p (record { numbered = d .0; valued = d .1 ∙ sym (add-zero bias); counted = d .2; written = w; changed = refl; entered = refl })
+-- ---- answers
+-- an answer that is a number alone
+pub stopped : {d : Rattle.journal.specs.Calls.Answer} {a : Answer} {v : List ℕ} (k : ℕ) (e : List ℕ) → d ≡ record { number = k; value = 0; count = 0; events = e }
+    → (a .number ≡ k) × (biased (a .value) ≡ bias) × (a .events ≡ 0) → v ≡ e → Answers d a v
+stopped k e p d w = rw p (record { numbered = d .0; valued = d .1 ∙ sym (add-zero bias); counted = d .2; written = w })
 
 -- a step whose answer is d and whose state is x and y
 pub replies : {s : Step} {d : Rattle.journal.specs.Calls.Answer} {a : Answer} {x y v : List ℕ} → s ≡ record { answer = d; state = vault x y } → Answers d a v → Replies s a v x y
 replies p d = rw p (record { numbered = d .numbered; valued = d .valued; counted = d .counted; written = d .written; changed = refl; entered = refl })
+
+-- a call that stops with a number, and changes nothing
+pub stops : {s : Step} {a : Answer} {l j v : List ℕ} (k : ℕ) (e : List ℕ) → s ≡ reply k e (vault l j) → (a .number ≡ k) × (biased (a .value) ≡ bias) × (a .events ≡ 0) → v ≡ e → Replies s a v l j
+stops k e p d w = replies p (stopped k e refl d w)
 
 -- ---- the steps of this vault: 30 and 31 first
 pub state-30 : (b : Bool) (j : List ℕ) → b ≡ false → 30 ≡ stateNumber b j

@@ -3,12 +3,10 @@ use mathlib.Core.Path.{_≡_, refl, sym, ap, _∙_}
 use mathlib.Core.Bool.{Bool, true, false}
 use mathlib.Core.List.{List, [], _∷_}
 use Prim.Native.Nat.{ℕ, zero, suc}
-use native.Mathlib.Nat.{add-zero}
 use native.Mathlib.Omega.{arith}
 use borrow.Author.Tests.{ne-eqb}
 use lib.Dec.{eqb}
 use lib.ListN.{length}
-use Rattle.amount.specs.Biased.{bias, biased}
 use Rattle.events.specs.Event.{bufferNumber}
 use Rattle.fields.specs.Logic.{_and_}
 use Rattle.history.specs.Kept.{note, run, log}
@@ -20,9 +18,9 @@ use Rattle.journal.specs.Step.{vault, reply, blank, outcome, operated}
 use Rattle.journal.proofs.Dispatch.{operated-full, operated-refused, step-30, step-31}
 use Rattle.token_vault.specs.Demand.{leavesBuffer}
 use Rattle.token_vault.specs.Preview.{previewAnswer, isPreviewed, RefusedPreview, callAt, CallFollows, Request, call, preview, runRequests, callsOf, logCalls, Previews}
-use Rattle.token_vault.specs.Public.{closedJournal, Answers}
+use Rattle.token_vault.specs.Public.{closedJournal}
 use Rattle.token_vault.specs.Vault.{callNumber, op, view, vaultStep}
-use Rattle.token_vault.proofs.Answered.{call-form, form-buffer, or-right, atClosed, closed-is, all-answered}
+use Rattle.token_vault.proofs.Answered.{call-form, form-buffer, or-right, atClosed, closed-outcome, closed-is, all-answered}
 use Rattle.token_vault.proofs.Called.{malformed, own-number, steps}
 use Rattle.operations.specs.Operations.{isOwn}
 use Rattle.operations.proofs.Numbers.{outcome-own}
@@ -40,11 +38,6 @@ module _ (l r e : List ℕ) where
 
   pub preview-malformed : {k : ℕ} → goodImage l ≡ true → k ≡ callNumber r e → (k ≡ 0 → ⊥) → previewAnswer l r e ≡ record { number = k; value = 0; count = 0; events = e }
   preview-malformed g p n = preview-good g ∙ malformed l r e p n
-
--- an answer that is a number alone
-pub stopped : {d : Answer} {a : Rattle.outcome.specs.declared.Answer.Answer} {v : List ℕ} (k : ℕ) (e : List ℕ) → d ≡ record { number = k; value = 0; count = 0; events = e }
-    → (a .number ≡ k) × (biased (a .value) ≡ bias) × (a .events ≡ 0) → v ≡ e → Answers d a v
-stopped k e p d w = rw p (record { numbered = d .0; valued = d .1 ∙ sym (add-zero bias); counted = d .2; written = w })
 
 -- ---- its number
 numbered : (l r e : List ℕ) → isPreviewed (previewAnswer l r e .number) ≡ true
@@ -68,12 +61,6 @@ refused l r e n =
 
 -- ---- the call that follows
 module _ (s : State) (d : Done) (j : List ℕ) where
-  outcome-closed : (a v f : Bool) → outcome a v false f s d j .answer ≡ d .answer
-  unfolding outcome
-  outcome-closed false v f = refl
-  outcome-closed true true f = refl
-  outcome-closed true false f = refl
-
   outcome-fits : (a v o : Bool) → outcome a v o true s d j .answer ≡ d .answer
   unfolding outcome
   outcome-fits false v o = refl
@@ -98,7 +85,7 @@ module _ (l j r e : List ℕ) (h : goodJournal cells j ≡ true) where
 
   closed : contentsOf j .opened ≡ false → callAt l j r e .answer ≡ previewAnswer l r e
   unfolding operated
-  closed o = same-answer (λ g. rw o (outcome-closed (vault l j) (op l r e) _ _ _ _))
+  closed o = same-answer (λ g. rw o (ap (λ (x : Step). x .answer) (closed-outcome _ _ _ l j _ (op l r e))))
 
   fitting : contentsOf j .opened ≡ true → room cells l (op l r e .image) j ≡ true → callAt l j r e .answer ≡ previewAnswer l r e
   unfolding operated

@@ -1,8 +1,8 @@
 -- `token_vault::answer_preview` meets its contract.
 use mathlib.Core.Path.{refl, sym, _∙_}
 use Rattle.storage.specs.Facts.{facts}
-use Rattle.token_vault.proofs.Previewed.{preview-good, preview-30, preview-malformed, stopped}
-use Rattle.token_vault.proofs.Called.{view-decided}
+use Rattle.token_vault.proofs.Previewed.{preview-good, preview-30, preview-malformed}
+use Rattle.token_vault.proofs.Called.{view-decided, stopped}
 use Rattle.token_vault.proofs.Accepted.{call-long}
 use borrow.Author.Tests.{not-true, not-false}
 use borrow.Author.Needs.{needs}
