@@ -26,6 +26,11 @@ use Rattle.operations.specs.Operations.{isOwn}
 use Rattle.operations.proofs.Numbers.{outcome-own}
 use Rattle.token_vault.proofs.Accepted.{form-zero}
 
+-- at a closed journal an operation has its own answer
+operated-alone : (v : Bool) (l j : List ℕ) (d : Done) → contentsOf j .opened ≡ false → operated cells v (vault l j) d .answer ≡ d .answer
+unfolding operated
+operated-alone v l j d o = rw o (ap (λ (x : Step). x .answer) (closed-outcome _ _ _ l j _ d))
+
 -- ---- the answer
 module _ (l r e : List ℕ) where
   pub preview-good : goodImage l ≡ true → previewAnswer l r e ≡ op l r e .answer
@@ -84,8 +89,7 @@ module _ (l j r e : List ℕ) (h : goodJournal cells j ≡ true) where
       go false g = ap (λ (x : Step). x .answer) (step-30 cells goodImage op view (vault l j) (operation r e) g) ∙ sym (preview-30 l r e g)
 
   closed : contentsOf j .opened ≡ false → callAt l j r e .answer ≡ previewAnswer l r e
-  unfolding operated
-  closed o = same-answer (λ g. rw o (ap (λ (x : Step). x .answer) (closed-outcome _ _ _ l j _ (op l r e))))
+  closed o = same-answer (λ g. operated-alone (view r) l j (op l r e) o)
 
   fitting : contentsOf j .opened ≡ true → room cells l (op l r e .image) j ≡ true → callAt l j r e .answer ≡ previewAnswer l r e
   unfolding operated
