@@ -1,14 +1,15 @@
 -- Previews: their answers, the call that follows, and runs with previews between the calls.
 use mathlib.Core.Path.{_≡_, refl, sym, ap, _∙_}
-use mathlib.Core.Bool.{Bool, true, false}
+use mathlib.Core.Bool.{Bool, true, false, _||_}
 use mathlib.Core.List.{List, [], _∷_}
 use Prim.Native.Nat.{ℕ, zero, suc}
 use native.Mathlib.Omega.{arith}
-use borrow.Author.Tests.{ne-eqb}
+use borrow.Author.Tests.{eqb-true, ne-eqb}
 use lib.Dec.{eqb}
 use lib.ListN.{length}
 use Rattle.events.specs.Event.{bufferNumber}
 use Rattle.fields.specs.Logic.{_and_}
+use Rattle.fields.specs.Rules.{pick}
 use Rattle.history.specs.Kept.{note, run, log}
 use Rattle.image.specs.Good.{goodImage}
 use Rattle.image.specs.Layout.{cells}
@@ -45,18 +46,36 @@ module _ (l r e : List ℕ) where
   preview-malformed g p n = preview-good g ∙ malformed l r e p n
 
 -- ---- its number
+-- on a good image: the operation's own, 32 and 33
+abbrev isOperation : ℕ → Bool
+isOperation n = isOwn n || (eqb n 32 || eqb n 33)
+
+operation-number : (l r e : List ℕ) → isOperation (op l r e .answer .number) ≡ true
+operation-number l r e = go (callNumber r e) refl
+  where
+    go : (k : ℕ) → callNumber r e ≡ k → isOperation (op l r e .answer .number) ≡ true
+    go zero z = rw (own-number l r e z, outcome-own l r (form-zero r e z))
+    go (suc k) z =
+        let f = rw (z, ne-eqb (suc k) 0 (λ y. omega arith)) at (call-form r e) in
+        rw (malformed l r e (sym z) (λ y. omega arith)) (or-right (isOwn (suc k)) _ f)
+
+or-between : (a b c : Bool) → a || c ≡ true → a || (b || c) ≡ true
+or-between true b c e = refl
+or-between false b c e = or-right b c e
+
 numbered : (l r e : List ℕ) → isPreviewed (previewAnswer l r e .number) ≡ true
 numbered l r e = go (goodImage l) refl
   where
-    op-numbered : (k : ℕ) → callNumber r e ≡ k → isPreviewed (op l r e .answer .number) ≡ true
-    op-numbered zero z = rw (own-number l r e z, outcome-own l r (form-zero r e z))
-    op-numbered (suc k) z =
-        let f = rw (z, ne-eqb (suc k) 0 (λ y. omega arith)) at (call-form r e) in
-        rw (malformed l r e (sym z) (λ y. omega arith)) (or-right (isOwn (suc k)) _ (or-right (eqb (suc k) 30) _ f))
-
     go : (b : Bool) → goodImage l ≡ b → isPreviewed (previewAnswer l r e .number) ≡ true
-    go true g = rw (preview-good l r e g) (op-numbered (callNumber r e) refl)
+    go true g = rw (preview-good l r e g) (let n = op l r e .answer .number in or-between (isOwn n) (eqb n 30) (eqb n 32 || eqb n 33) (operation-number l r e))
     go false g = rw (preview-30 l r e g)
+
+not-30 : (n : ℕ) → isOperation n ≡ true → eqb n 30 ≡ false
+not-30 n p = go (eqb n 30) refl
+  where
+    go : (b : Bool) → eqb n 30 ≡ b → b ≡ false
+    go true q = let w : false ≡ true = rw (eqb-true n 30 q) at p in absurd (let y : _≡_ {A = ℕ} 0 1 = cc in omega arith)
+    go false q = refl
 
 refused : (l r e : List ℕ) → (previewAnswer l r e .number ≡ 0 → ⊥) → RefusedPreview r e (previewAnswer l r e)
 unfolding previewAnswer
@@ -115,6 +134,15 @@ module _ (l j r e : List ℕ) (h : goodJournal cells j ≡ true) where
   follows : CallFollows l j r e
   follows = record { closed = closed; fits = fitting; viewed = viewed; refused = refused-alike; full = full }
 
+-- ---- a journal that is not good
+bad-journal : (l j r e : List ℕ) → goodJournal cells j ≡ false → callAt l j r e ≡ reply (pick (eqb (previewAnswer l r e .number) 30) 30 31) e (vault l j)
+unfolding vaultStep
+bad-journal l j r e h = go (goodImage l) refl
+  where
+    go : (b : Bool) → goodImage l ≡ b → vaultStep (vault l j) (operation r e) ≡ reply (pick (eqb (previewAnswer l r e .number) 30) 30 31) e (vault l j)
+    go true g = step-31 cells goodImage op view (vault l j) (operation r e) g h ∙ rw (preview-good l r e g, not-30 _ (operation-number l r e))
+    go false g = step-30 cells goodImage op view (vault l j) (operation r e) g ∙ rw (preview-30 l r e g)
+
 -- ---- the event buffer that a call finds
 module _ (r e f : List ℕ) (p : length f ≡ length e) where
   same-form : callNumber r f ≡ callNumber r e
@@ -159,6 +187,7 @@ all-previewed =
       numbered = numbered;
       refused = refused;
       follows = follows;
+      bad-journal = bad-journal;
       any-buffer = λ s r e f p n. any-buffer r e f p s n;
       between = λ s xs. record { same = same s xs; answers = answers s xs };
     }

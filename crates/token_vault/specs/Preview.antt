@@ -8,6 +8,7 @@ use lib.Dec.{eqb}
 use lib.ListN.{length}
 use Rattle.amount.specs.Biased.{bias}
 use Rattle.events.specs.Splice.{amountBytes}
+use Rattle.fields.specs.Rules.{pick}
 use Rattle.history.specs.Kept.{Noted, note, run, log}
 use Rattle.image.specs.Layout.{cells}
 use Rattle.journal.specs.Calls.{Call, operation, State, Answer, Step}
@@ -91,6 +92,9 @@ pub record Previews : Type 0 where
   pub numbered : (l r e : List ℕ) → isPreviewed (previewAnswer l r e .number) ≡ true
   pub refused : (l r e : List ℕ) → (previewAnswer l r e .number ≡ 0 → ⊥) → RefusedPreview r e (previewAnswer l r e)
   pub follows : (l j r e : List ℕ) → goodJournal cells j ≡ true → CallFollows l j r e
+  -- at a journal that is not good the call is refused, with 30 where the preview is and else with 31, and leaves all as it was, the event buffer too
+  pub bad-journal : (l j r e : List ℕ) → goodJournal cells j ≡ false
+      → callAt l j r e ≡ reply (pick (eqb (previewAnswer l r e .number) 30) 30 31) e (vault l j)
   -- what the event buffer held before a call does not matter, unless the call leaves it as it was lent: it may be the one that the preview wrote to
   pub any-buffer : (s : State) (r e f : List ℕ) → length f ≡ length e → leavesBuffer (vaultStep s (operation r e) .answer .number) ≡ false
       → vaultStep s (operation r f) ≡ vaultStep s (operation r e)
