@@ -1,4 +1,4 @@
-/* Calls all seven functions of the token vault, and the readers and writers of its header, and checks their answers. Prints one line; its
+/* Calls all eight functions of the token vault, and the readers and writers of its header, and checks their answers. Prints one line; its
  * status is 1 if an answer was wrong. */
 #include "token_vault.h"
 #include <stdio.h>
@@ -14,6 +14,7 @@ static uint8_t events[TOKEN_VAULT_EVENTS_LENGTH];
 static uint8_t record[TOKEN_VAULT_RECORD_LENGTH];
 static uint8_t value[16];
 static uint32_t count;
+static uint64_t reached;
 static int checked, wrong;
 
 static void check(const char *what, uint64_t found, uint64_t wanted) {
@@ -255,6 +256,88 @@ static void previews_in_transactions(void) {
     check("commit", token_vault_commit(image, sizeof image, small_journal, sizeof small_journal), TOKEN_VAULT_DONE);
 }
 
+/* Five trial records, and the same in parts. */
+static uint8_t records[5 * TOKEN_VAULT_RECORD_LENGTH], parts[5 * TOKEN_VAULT_RECORD_LENGTH];
+
+/* The trial record that is fifth from 1, written by its fields. */
+static void begin_fifth(void) {
+    uint8_t address;
+    token_vault_record_begin(record, TOKEN_VAULT_OP_UNPAUSE);
+    token_vault_record_set_caller(record, 33);
+    token_vault_record_set_token(record, 9);
+    token_vault_record_set_other(record, 1);
+    token_vault_record_set_flag(record, 1);
+    token_vault_record_set_timestamp(record, 5);
+    token_vault_record_set_ledger_sequence(record, 5);
+    for (address = 0; address < TOKEN_VAULT_ADDRESSES; address++) token_vault_record_add_signer(record, address);
+    token_vault_record_set_amount(record, token_vault_amount_from_int64(195));
+    token_vault_record_add_item(record, 1, token_vault_amount_from_int64(195));
+}
+
+static void trial_records(void) {
+    memset(records, 0xa5, sizeof records);
+    check("trial records", token_vault_trial_records(1, 1, records, sizeof records, &reached), TOKEN_VAULT_DONE);
+    check("reached", reached, 16379080853662959639u);
+    check("operation", token_vault_record_operation(records), TOKEN_VAULT_OP_OUTSIDE_MOVE);
+    check("caller", token_vault_record_caller(records), 51);
+    check("token", token_vault_record_token(records), 25);
+    check("other", token_vault_record_other(records), 13);
+    check("flag", token_vault_record_flag(records), 0);
+    check("item count", token_vault_record_item_count(records), 1);
+    check("timestamp", token_vault_record_timestamp(records), 1);
+    check("ledger sequence", token_vault_record_ledger_sequence(records), 1);
+    check("signers", token_vault_record_signers(records), UINT64_MAX);
+    check_amount("amount", token_vault_record_amount(records), 58);
+    check_amount("fee", token_vault_record_fee(records), 0);
+    check("item address", token_vault_record_item_address(records, 0), 13);
+    check_amount("item amount", token_vault_record_item_amount(records, 0), 58);
+    check("other items", (uint64_t)are_all(records + 88, TOKEN_VAULT_RECORD_LENGTH - 88, 0), 1);
+    begin_fifth();
+    check("fifth record", memcmp(record, records + 4 * TOKEN_VAULT_RECORD_LENGTH, sizeof record) == 0, 1);
+}
+
+/* Two records and then three are the five of before; and only what is lent is written. */
+static void trial_records_in_parts(void) {
+    size_t two = 2 * TOKEN_VAULT_RECORD_LENGTH;
+    memset(parts, 0xa5, sizeof parts);
+    check("two records", token_vault_trial_records(1, 1, parts, two, &reached), TOKEN_VAULT_DONE);
+    check("reached by two", reached, 9882984339513518093u);
+    check("not lent", (uint64_t)are_all(parts + two, sizeof parts - two, 0xa5), 1);
+    check("no record", token_vault_trial_records(reached, 3, parts + two, 0, &reached), TOKEN_VAULT_DONE);
+    check("reached by none", reached, 9882984339513518093u);
+    check("not lent", (uint64_t)are_all(parts + two, sizeof parts - two, 0xa5), 1);
+    check("three records", token_vault_trial_records(reached, 3, parts + two, sizeof parts - two, &reached), TOKEN_VAULT_DONE);
+    check("reached by five", reached, 16379080853662959639u);
+    check("parts", memcmp(parts, records, sizeof parts) == 0, 1);
+    check("last number", token_vault_trial_records(1, 0xffffffffu, parts, sizeof record, &reached), TOKEN_VAULT_DONE);
+    check("reached by one", reached, 9232803539723513983u);
+    check("last timestamp", token_vault_record_timestamp(parts), 0xffffffffu);
+    check("last ledger sequence", token_vault_record_ledger_sequence(parts), 0xffffffffu);
+    check("behind the last number", token_vault_trial_records(7, 0x100000000u, parts, 0, &reached), TOKEN_VAULT_DONE);
+    check("reached by none", reached, 7);
+}
+
+/* Refused with 32: the buffer as it was lent, and the start in *reached. */
+static void check_no_records(const char *what, uint64_t first, size_t length) {
+    memset(records, 0xa5, sizeof records);
+    reached = 0xa5a5a5a5a5a5a5a5u;
+    check(what, token_vault_trial_records(7, first, records, length, &reached), TOKEN_VAULT_REFUSAL_INVALID_RECORD);
+    check("records as lent", (uint64_t)are_all(records, sizeof records, 0xa5), 1);
+    check("reached", reached, 7);
+}
+
+static void trial_records_that_are_refused(void) {
+    check_no_records("one byte", 1, 1);
+    check_no_records("a byte too few", 1, 447);
+    check_no_records("a byte too many", 1, 449);
+    check_no_records("first number 0", 0, sizeof records);
+    check_no_records("first number 0 of none", 0, 0);
+    check_no_records("second number 2^32", 0xffffffffu, 2 * sizeof record);
+    check_no_records("first number 2^32", 0x100000000u, sizeof record);
+    check_no_records("first number 2^32 + 1 of none", 0x100000001u, 0);
+    check_no_records("a sum of 2^64", UINT64_MAX, sizeof record);
+}
+
 static void fields(void) {
     token_vault_record_begin(record, TOKEN_VAULT_OP_APPROVE_TOKEN);
     token_vault_record_set_caller(record, 7);
@@ -328,6 +411,9 @@ int main(void) {
     previews();
     previews_that_are_refused();
     previews_in_transactions();
+    trial_records();
+    trial_records_in_parts();
+    trial_records_that_are_refused();
     fields();
     amounts();
     refusals();

@@ -3,11 +3,12 @@
  * Every function answers for any bytes of any length: nothing is asked of what stands in a buffer or of how long it is, and no call traps or
  * keeps anything between calls. Each buffer is a pointer and its length in bytes; the caller owns it before, during and after the call.
  * What the compiler cannot see and the caller must keep to: each pointer is good for its length (a length of 0 allows any pointer that is not
- * null); a buffer that is not const overlaps no other of the same call, value and event_count being two more of them; and during the call no
- * other thread touches such a buffer or writes to one that is const. A call needs less than 64 KiB of stack. The library is for x86-64.
+ * null); a buffer that is not const overlaps no other of the same call, value, event_count and reached being three more of them; and during the
+ * call no other thread touches such a buffer or writes to one that is const. A call needs less than 64 KiB of stack. The library is for x86-64.
  *
  * Buffers: the image (36,832 bytes when good), the journal (24 times 1 + k bytes, k from 1 to 2,000; all zero is a closed one), the record
- * (448 bytes), the events (896 bytes). A buffer of another length or with other contents is refused by its number and left as it was.
+ * (448 bytes), the events (896 bytes), the trial records (448 bytes each, of any contents). A buffer of another length or with other contents is
+ * refused by its number and left as it was.
  *
  * The result is TOKEN_VAULT_DONE or one of the refusals below; token_vault_refusal_name and token_vault_refusal_sentence say what it means.
  * docs/FORMATS.md has every format and rule. */
@@ -17,7 +18,7 @@
 #include <stddef.h>
 #include <stdint.h>
 
-#define TOKEN_VAULT_VERSION "0.2.0"
+#define TOKEN_VAULT_VERSION "0.3.0"
 
 /* Lengths in bytes, and how many there are at most. */
 #define TOKEN_VAULT_IMAGE_LENGTH 36832
@@ -241,6 +242,13 @@ uint32_t token_vault_rollback(uint8_t *image, size_t image_length, uint8_t *jour
 
 /* Undoes the last call of the transaction. */
 uint32_t token_vault_undo(uint8_t *image, size_t image_length, uint8_t *journal, size_t journal_length);
+
+/* Trial records, a load that any house makes from the same two numbers (docs/FORMATS.md, "Trial records"). On 0 the buffer holds
+ * records_length / 448 records, whose numbers are first, first + 1 and so on, drawn by the generator from start on; *reached is the generator's
+ * number after the last draw, which is the start of the records that follow. It is 32 where records_length is no multiple of 448, first is 0 or
+ * the last record's number would be above 2^32 - 1 (no record at all: where first is above 2^32); then the buffer is left as it was. *reached is
+ * written for every answer, and is start on 32 and where there is no record. */
+uint32_t token_vault_trial_records(uint64_t start, uint64_t first, uint8_t *records, size_t records_length, uint64_t *reached);
 
 #ifdef __cplusplus
 }

@@ -1,4 +1,4 @@
-//! The seven functions of the library over byte slices. Any bytes of any length get an answer: 0, or the number of a refusal.
+//! The eight functions of the library over byte slices. Any bytes of any length get an answer: 0, or the number of a refusal.
 
 /// The declarations of include/token_vault.h: a slice is a pointer and a length.
 mod declared {
@@ -39,6 +39,7 @@ mod declared {
         pub fn token_vault_commit(image: *mut u8, image_length: usize, journal: *mut u8, journal_length: usize) -> u32;
         pub fn token_vault_rollback(image: *mut u8, image_length: usize, journal: *mut u8, journal_length: usize) -> u32;
         pub fn token_vault_undo(image: *mut u8, image_length: usize, journal: *mut u8, journal_length: usize) -> u32;
+        pub fn token_vault_trial_records(start: u64, first: u64, records: *mut u8, records_length: usize, reached: *mut u64) -> u32;
     }
 }
 
@@ -114,4 +115,10 @@ pub fn rollback(image: &mut [u8], journal: &mut [u8]) -> u32 {
 /// Undoes the last call of the transaction.
 pub fn undo(image: &mut [u8], journal: &mut [u8]) -> u32 {
     unsafe { declared::token_vault_undo(image.as_mut_ptr(), image.len(), journal.as_mut_ptr(), journal.len()) }
+}
+
+/// Fills a buffer with trial records, numbered from `first` on and drawn from `start` on. The generator's number after the
+/// last draw is written for every answer; on a refusal, which is 32, it is `start`, and the buffer is as it was lent.
+pub fn trial_records(start: u64, first: u64, records: &mut [u8], reached: &mut u64) -> u32 {
+    unsafe { declared::token_vault_trial_records(start, first, records.as_mut_ptr(), records.len(), reached) }
 }

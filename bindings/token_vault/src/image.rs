@@ -3,6 +3,7 @@ use crate::bytes::put;
 use crate::event::decode_events;
 use crate::layout::image as at;
 use crate::layout::{EVENTS_LENGTH, IMAGE_LENGTH};
+use crate::refusal::result;
 use crate::view::{account_place, token_place};
 use crate::{exports, Address, Event, ImageView, Journal, Record, Refusal};
 use std::error::Error;
@@ -207,12 +208,5 @@ impl Answer {
         result(number)?;
         let events = decode_events(&self.events, self.event_count).expect("events of the kinds that this crate knows");
         Ok(Done { value: i128::from_le_bytes(self.value), events })
-    }
-}
-
-fn result(number: u32) -> Result<(), Refusal> {
-    match number {
-        0 => Ok(()),
-        _ => Err(Refusal::from_number(number).expect("a refusal that this crate knows")),
     }
 }

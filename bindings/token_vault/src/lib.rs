@@ -2,8 +2,8 @@
 //!
 //! An [`Image`] is all that a vault keeps. A [`Record`] is one call on it, with the addresses that signed it. A call is
 //! done, with a value and [`Event`]s, or refused with a [`Refusal`] and then nothing has changed. A preview gives the same
-//! and never changes anything. In the transaction of a [`Journal`] calls can be undone. Formats and rules are in
-//! docs/FORMATS.md of the repository.
+//! and never changes anything. In the transaction of a [`Journal`] calls can be undone. [`trial_records`] makes a load of
+//! records that every house makes alike. Formats and rules are in docs/FORMATS.md of the repository.
 //!
 //! ```
 //! use token_vault::{Image, Journal, Record, Refusal};
@@ -54,6 +54,7 @@ pub mod layout;
 mod operation;
 mod record;
 mod refusal;
+mod trial;
 mod view;
 mod words;
 
@@ -63,6 +64,7 @@ pub use journal::{Entry, Journal, JournalView};
 pub use operation::Operation;
 pub use record::{Item, Record};
 pub use refusal::Refusal;
+pub use trial::{trial_records, TrialRecords};
 pub use view::{Handover, ImageView, Migration, Snapshot, Token, TokenState, TrackedKey};
 
 /// An account or a token: 0 to 63; above that the library answers 32.

@@ -216,3 +216,11 @@ impl fmt::Display for Refusal {
 }
 
 impl Error for Refusal {}
+
+/// What the library's number says.
+pub(crate) fn result(number: u32) -> Result<(), Refusal> {
+    match number {
+        0 => Ok(()),
+        _ => Err(Refusal::from_number(number).expect("a refusal that this crate knows")),
+    }
+}

@@ -190,7 +190,14 @@ fn declared(parameter: &str) -> String {
     if let Some(name) = parameter.strip_prefix("uint8_t ").and_then(|rest| rest.strip_suffix("[16]")) {
         return format!("{name}: *mut [u8; 16]");
     }
-    let types = [("const uint8_t *", "*const u8"), ("uint8_t *", "*mut u8"), ("uint32_t *", "*mut u32"), ("size_t ", "usize")];
+    let types = [
+        ("const uint8_t *", "*const u8"),
+        ("uint8_t *", "*mut u8"),
+        ("uint32_t *", "*mut u32"),
+        ("uint64_t *", "*mut u64"),
+        ("uint64_t ", "u64"),
+        ("size_t ", "usize"),
+    ];
     let found = types.iter().find_map(|(in_c, in_rust)| Some(format!("{}: {in_rust}", parameter.strip_prefix(in_c)?)));
     found.unwrap_or_else(|| panic!("a parameter of another type: {parameter}"))
 }
@@ -206,7 +213,7 @@ fn functions(text: &str, mark: &str) -> BTreeMap<String, Vec<String>> {
 fn functions_of_the_header() {
     let in_c = functions(&header(), "\nuint32_t token_vault_");
     let in_rust = functions(&read("src/exports.rs"), "pub fn token_vault_");
-    assert_eq!(in_c.len(), 7);
+    assert_eq!(in_c.len(), 8);
     let in_c = in_c.into_iter().map(|(name, parameters)| (name, parameters.iter().map(|p| declared(p)).collect()));
     assert_eq!(in_c.collect::<BTreeMap<_, _>>(), in_rust);
 }

@@ -1,3 +1,4 @@
 -- What the contracts cite.
 pub mod Decimal
 pub mod Hexadecimal
+pub mod Text

@@ -117,6 +117,16 @@ pub fn write_line(out: &mut [u8; 160], number: u32, v: Amount, events: u32) -> u
     write_answer(out, a, number, v, events)
 }
 
+// A line for standard error: who says it, and a sentence.
+pub fn write_message(out: &mut [u8], at: usize, program: &[u8], sentence: &[u8]) -> usize
+    requires { ⌜ (length (now program) + length (now sentence) + 1 ≤ at) × (at ≤ length (now out)) ⌝ }
+    ensures { λ r. ⌜ (drop r (now (out .exit)) ≡ now (program .entry) ++ (now (sentence .entry) ++ (10 ∷ drop at (now (out .entry))))) × (r ≤ at) ⌝ }
+{
+    let end = write_text(out, at, b"\n");
+    let middle = write_text(out, end, sentence);
+    write_text(out, middle, program)
+}
+
 fn hexadecimal_digit(x: u8) -> u8
     requires { ⌜ x < 16 ⌝ }
     ensures { λ r. ⌜ r ≡ digit x ⌝ }

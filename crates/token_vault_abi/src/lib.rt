@@ -1,9 +1,10 @@
-// The seven calls of the token vault for C and Rust: a slice is passed as a pointer and a length, the value and the event count each as a pointer.
+// The seven calls of the token vault and the trial records for C and Rust: a slice is passed as a pointer and a length, and each number that is written as a pointer.
 ghost use Rattle.journal.specs.Calls.{Call};
 ghost use Rattle.journal.specs.Step.{vault};
 ghost use Rattle.token_vault.specs.Vault.{vaultStep};
 ghost use Rattle.token_vault.specs.Public.{CallIs, CallAlone, closedJournal, JournalIs};
 ghost use Rattle.token_vault.specs.Preview.{previewAnswer, PreviewIs};
+ghost use Rattle.trial_records.specs.Trial.{trial, TrialIs};
 
 // A call: its number; value and event count are written for every answer.
 #[no_mangle]
@@ -78,4 +79,17 @@ pub extern "C" fn token_vault_undo(image: &mut [u8], journal: &mut [u8]) -> u32
     ensures { λ r. ⌜ JournalIs (vaultStep (vault (now (image .entry)) (now (journal .entry))) Call.undo) r (now (image .exit)) (now (journal .exit)) ⌝ }
 {
     token_vault::undo(image, journal)
+}
+
+// Fills the buffer with trial records, and says which number of the generator the last draw reached.
+#[no_mangle]
+pub extern "C" fn token_vault_trial_records(
+    start: u64,
+    first: u64,
+    records: &mut [u8],
+    reached: &mut u64,
+) -> u32
+    ensures { λ r. ⌜ TrialIs (trial start first (now (records .entry))) r (now (records .exit)) (now (reached .exit)) ⌝ }
+{
+    trial_records::trial_records(start, first, records, reached)
 }

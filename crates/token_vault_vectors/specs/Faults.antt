@@ -3,13 +3,13 @@ use mathlib.Core.Path.{_≡_, refl}
 use mathlib.Core.Bool.{Bool}
 use mathlib.Core.List.{List, [], _∷_, _++_}
 use Prim.Native.Nat.{ℕ}
-use Prim.Native.Char.{code}
-use Prim.Native.String.{String, [] as []ˢ, _∷_ as _∷ˢ_}
+use Prim.Native.String.{String}
 use lib.Dec.{ltb}
 use lib.ListN.{length, getD}
 use Rattle.fields.specs.Bytes.{le}
 use Rattle.fields.specs.Logic.{_and_, _or_}
 use Rattle.fields.specs.Rules.{lt, ne, is, Rule, when, verdict, chain}
+use Rattle.answer_line.specs.Text.{text}
 use Rattle.journal.specs.Calls.{State}
 
 -- ---- the faults, the first that holds
@@ -59,10 +59,6 @@ unfoldable pub callFault : (headRead : ℕ) → (h : List ℕ) → (recordRead :
 callFault headRead h recordRead = chain (callHeadFault headRead h ∷ recordFault h recordRead ∷ [])
 
 -- ---- the lines, in ASCII
-abbrev pub text : String → List ℕ
-text []ˢ = []
-text (c ∷ˢ s) = code c ∷ text s
-
 -- by the fault's number
 unfoldable pub sentences : List String
 sentences =

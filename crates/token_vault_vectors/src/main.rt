@@ -419,9 +419,7 @@ fn write_sentence(sentence: &[u8], fault: u8) -> bool
     requires { ⌜ (now sentence ≡ faultText fault) × (length (now sentence) ≤ 80) × IsFault fault ⌝ }
 {
     let mut out = [0u8; 128];
-    let end = answer_line::write_text(&mut out, 128, b"\n");
-    let middle = answer_line::write_text(&mut out, end, sentence);
-    let start = answer_line::write_text(&mut out, middle, b"token_vault_vectors: ");
+    let start = answer_line::write_message(&mut out, 128, b"token_vault_vectors: ", sentence);
     let whole = &out[..];
     write_fault_line(&whole[start..], fault)
 }

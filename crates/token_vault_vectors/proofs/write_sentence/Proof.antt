@@ -4,34 +4,19 @@ use Prim.Native.Nat.{_-_, _≤_}
 use native.Mathlib.Omega.{arith}
 use lib.ListN.{length, drop, length-drop}
 use lib.Seq.{take-all}
-use borrow.Author.Needs.{needs}
 use Rattle.token_vault_vectors.specs.Faults.{faultLine}
+use borrow.Author.Needs.{needs}
 use Rattle.token_vault_vectors.proofs.write_sentence.Statement.{statement}
 use Rattle.token_vault_vectors.proofs.write_sentence.Tie as tie
 
-slice-aggregate-write-text : tie.Need-slice-aggregate-write-text
-slice-aggregate-write-text c = search needs
+slice-aggregate-write-message : tie.Need-slice-aggregate-write-message
+slice-aggregate-write-message c = search needs
 
-slice-aggregate-write-text-2 : tie.Need-slice-aggregate-write-text-2
-slice-aggregate-write-text-2 c = search needs
+slice-aggregate-write-message-2 : tie.Need-slice-aggregate-write-message-2
+slice-aggregate-write-message-2 c = search needs
 
-write-text-requires : tie.Need-write-text-requires
-write-text-requires c κs = search needs
-
-slice-aggregate-write-text-3 : tie.Need-slice-aggregate-write-text-3
-slice-aggregate-write-text-3 c = search needs
-
-write-text-requires-2 : tie.Need-write-text-requires-2
-write-text-requires-2 c κs = search needs
-
-slice-aggregate-write-text-4 : tie.Need-slice-aggregate-write-text-4
-slice-aggregate-write-text-4 c = search needs
-
-slice-aggregate-write-text-5 : tie.Need-slice-aggregate-write-text-5
-slice-aggregate-write-text-5 c = search needs
-
-write-text-requires-3 : tie.Need-write-text-requires-3
-write-text-requires-3 c κs = search needs
+write-message-requires : tie.Need-write-message-requires
+write-message-requires c κs = search needs
 
 slice-aggregate-whole : tie.Need-slice-aggregate-whole
 slice-aggregate-whole c = search needs
@@ -47,9 +32,11 @@ part-write-fault-line-end c = search needs
 
 write-fault-line-requires : tie.Need-write-fault-line-requires
 unfolding faultLine
-write-fault-line-requires c κs = let w = c .before .before .before .write-text3 in
+write-fault-line-requires c κs =
+    let w = c .before .before .before .write-message in
+    let p = c .before .before .before .before .before .before .before .pre in
     let h : length (drop (w .result) (w .last .0)) ≤ length (w .last .0) - w .result = simp length-drop (omega arith) in
-    (rw (take-all _ _ h, w .ensures .0, c .before .before .before .before .before .before .before .write-text2 .ensures .0, c .before .before .before .before .before .before .before .before .before .before .write-text .ensures .0, c .before .before .before .before .before .before .before .before .before .before .before .before .before .before .pre .0) refl, c .before .before .before .before .before .before .before .before .before .before .before .before .before .before .pre .2)
+    (rw (take-all _ _ h, w .ensures .0, p .0) refl, p .2)
 
 returns : tie.Need-returns
 returns c = search needs
@@ -58,14 +45,9 @@ pub write-sentence-spec : {M : Type 1} → statement M
 write-sentence-spec =
     tie.close
     (tie.spec
-    slice-aggregate-write-text
-    slice-aggregate-write-text-2
-    write-text-requires
-    slice-aggregate-write-text-3
-    write-text-requires-2
-    slice-aggregate-write-text-4
-    slice-aggregate-write-text-5
-    write-text-requires-3
+    slice-aggregate-write-message
+    slice-aggregate-write-message-2
+    write-message-requires
     slice-aggregate-whole
     sub-write-fault-line
     part-write-fault-line-start
