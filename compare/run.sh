@@ -5,9 +5,9 @@ set -eu
 usage() {
     cat <<'END'
 compare/run.sh [--calls N] [--seed S] [--jobs J] [--partial]
-    the whole comparison: the vectors made again, the calls of the benchmark, planted mistakes, the program's lines, then at least
-    N calls (2000000) from the seed S (1) on J threads (2), one operation in four previewed first; --partial: a pair of operation and
-    answer, of a call or a preview, that was not reached is no failure
+    the whole comparison: the vectors made again, the calls of the benchmark, planted mistakes, the lines of the program, trial records,
+    then at least N calls (2000000) from the seed S (1) on J threads (2), one operation in four previewed first; --partial: a pair of
+    operation and answer, of a call or a preview, that was not reached is no failure
 compare/run.sh --scenario N [--seed S]
     one scenario of the run alone
 compare/run.sh --vectors FOLDER [--seed S]
@@ -16,8 +16,11 @@ compare/run.sh --program [--seed S] [--partial]
     the program's lines alone, on the streams of the seed, then wrong programs that have to be found
 compare/run.sh --self-test [--seed S] [--calls N]
     planted mistakes alone; each has to be found within N calls (400000)
+compare/run.sh --load START N
+    N trial records (1 to 4294967295) from the starting number START (0 to 18446744073709551615), made by the library, run through the
+    vault and the contract's Rust and compared, with the calls a second of both (docs/PERFORMANCE.md)
 compare/run.sh --bench
-    times the vault, its previews too, beside the contract's Rust (docs/PERFORMANCE.md)
+    times the vault, its previews too, beside the contract's Rust, and the making of trial records (docs/PERFORMANCE.md)
 compare/run.sh --bench-cells [--seed S]
     times the two ways to find the changed cells of a call, by words and by bytes (docs/PERFORMANCE.md)
 compare/run.sh --help
@@ -45,6 +48,8 @@ calls=
 seed=
 jobs=
 scenario=
+start=
+records=
 folder=
 partial=
 once() { [ -z "$mode" ] || [ "$mode" = "$1" ] || wrong "$mode and $1 do not go together"; mode=$1; }
@@ -57,6 +62,7 @@ while [ $# -gt 0 ]; do
     --bench | --bench-cells | --program | --self-test) once "$option"; continue ;;
     --partial) partial=--partial; continue ;;
     --calls | --seed | --jobs | --scenario | --vectors) [ $# -gt 0 ] || wrong "$option wants a word behind it" ;;
+    --load) [ $# -gt 1 ] || wrong "--load wants two words behind it" ;;
     *) wrong "unknown option '$option'" ;;
     esac
     word=$1
@@ -67,6 +73,7 @@ while [ $# -gt 0 ]; do
     --seed) seed=$word ;;
     --jobs) jobs=$word ;;
     --scenario) once --scenario; scenario=$word ;;
+    --load) once --load; start=$word; number --load "$start"; records=$1; number --load "$records"; shift; continue ;;
     esac
     number "$option" "$word"
 done
@@ -77,7 +84,7 @@ takes() { # the options that a mode does not read are mistakes
     done
 }
 case $mode in
---bench) takes "" ;;
+--bench | --load) takes "" ;;
 --vectors | --scenario | --bench-cells) takes "seed" ;;
 --program) takes "seed partial" ;;
 --self-test) takes "seed calls" ;;
@@ -113,6 +120,7 @@ bench=$CARGO_TARGET_DIR/release/bench
 : "${seed:=1}"
 case $mode in
 --bench) exec "$bench" ;;
+--load) exec "$bench" --load "$start" "$records" ;;
 --bench-cells) exec "$bench" --cells --seed "$seed" ;;
 --vectors) exec "$driver" --vectors "$folder" --seed "$seed" ;;
 --scenario) exec "$driver" --scenario "$scenario" --seed "$seed" ;;
@@ -126,4 +134,12 @@ cmp "$vectors/stdout" crates/token_vault_vectors/stdout
 "$bench" --quick
 "$driver" --self-test --calls 400000
 "$driver" --program --seed 1
+compare/program.sh token_vault_trial
+outputs=0
+for request in "1 1 1" "1 1 127" "0 1 128" "1 1 129" "18446744073709551615 77 1000" "18364758544493064720 4294966271 1025"; do
+    "$driver" --trial-records $request >"$CARGO_TARGET_DIR/trial_records"
+    target/bin/token_vault_trial $request | cmp - "$CARGO_TARGET_DIR/trial_records"
+    outputs=$((outputs + 1))
+done
+echo "program of trial records: $outputs outputs as the model has them"
 exec "$driver" --calls "${calls:-2000000}" --seed "$seed" --jobs "${jobs:-2}" $partial

@@ -1,6 +1,6 @@
 #!/bin/sh
-# The programs on inputs that their crates do not store, token_vault_main and, on malformed input, token_vault_vectors; and the options of
-# the scripts.
+# The programs on inputs that their crates do not store, token_vault_main, on malformed input token_vault_vectors, and with right and wrong
+# arguments token_vault_trial; and the options of the scripts.
 set -eu
 case ${1:-} in
 '') ;;
@@ -14,7 +14,7 @@ case ${1:-} in
     ;;
 esac
 cd "$(dirname "$0")/.."
-compare/program.sh token_vault_main token_vault_vectors
+compare/program.sh token_vault_main token_vault_vectors token_vault_trial
 program=target/bin/token_vault_main
 
 zeros() { head -c "$1" /dev/zero; }
@@ -29,6 +29,7 @@ of() { printf 'answer=%s value=0 events=0' "$1"; }
 { zeros 20000; sleep 0.1; zeros 16832; balance; sleep 0.1; printf '\030'; sleep 0.1; zeros 447; } | "$program" | prints "input that comes in parts" "$(of 1; echo; of 1)"
 echo "program: 2 inputs"
 compare/malformed.sh target/bin/token_vault_vectors
+compare/trial.sh target/bin/token_vault_trial
 
 # The scripts: what they do not know is refused with status 2 and a line, before anything runs.
 refuses() {
@@ -44,6 +45,9 @@ refuses() {
 refuses "compare/run.sh: unknown option '--bnech'" compare/run.sh --bnech
 refuses "compare/run.sh: --calls wants a number, not 'many'" compare/run.sh --calls many
 refuses "compare/run.sh: --vectors wants a word behind it" compare/run.sh --vectors
+refuses "compare/run.sh: --load wants two words behind it" compare/run.sh --load 1
+refuses "compare/run.sh: --load wants a number, not '-1'" compare/run.sh --load 18446744073709551615 -1
+refuses "compare/run.sh: --load does not take --seed" compare/run.sh --load 1 1000 --seed 3
 refuses "compare/run.sh: --bench does not take --seed" compare/run.sh --bench --seed 3
 refuses "compare/run.sh: --bench-cells does not take --calls" compare/run.sh --bench-cells --calls 3
 refuses "compare/run.sh: --bench and --program do not go together" compare/run.sh --bench --program

@@ -1,20 +1,23 @@
 //! Calls a second of the vault beside the contract's Rust: the sides in turn, on the same calls, in one run. And how long the
-//! vault takes to find the changed cells of a call.
+//! vault takes to find the changed cells of a call and to make trial records.
+mod alone;
 mod cases;
 mod cells;
 mod forms;
+mod load;
 mod sides;
 
 use cases::Case;
 use sides::{Answer, Side};
-use std::hint::black_box;
 use std::process::exit;
 use std::time::{Duration, Instant};
 
 const USAGE: &str = "bench [--quick | --cells] [--seed S]
-  --quick   compare the sides on every case, and both ways to find changed cells, and time nothing
-  --cells   time both ways to find the changed cells of a call
-  --seed S  of the calls and images of the changed cells (1)";
+bench --load START N
+  --quick         compare the sides on every case and on few trial records, and both ways to find changed cells, and time nothing
+  --cells         time both ways to find the changed cells of a call
+  --seed S        of the calls and images of the changed cells (1)
+  --load START N  compare and time the sides on N trial records (1 to 4294967295) from a starting number (0 to 18446744073709551615)";
 const NAMES: [&str; 3] = ["the vault", "the Rust on a host kept loaded", "the Rust on a host loaded for each call"];
 /// A round of one side, and the rounds of a case: so long, and so many at least.
 const ROUND: Duration = Duration::from_millis(1);
@@ -27,7 +30,8 @@ fn main() {
     let (mode, seed) = match words[..] {
         [] => ("", 1),
         [mode @ ("--quick" | "--cells")] => (mode, 1),
-        [mode @ ("--quick" | "--cells"), "--seed", seed] => (mode, seed.parse().unwrap_or_else(|_| usage())),
+        [mode @ ("--quick" | "--cells"), "--seed", seed] => (mode, number(seed)),
+        ["--load", start, records] => return load::print(number(start), record_count(records)),
         _ => usage(),
     };
     let (sparse, full) = (cases::sparse_image(), cases::full_image());
@@ -37,13 +41,13 @@ fn main() {
             let cases = run(images, false);
             println!("bench: {cases} cases, the vault and the Rust agree in answers, events, images and journals");
             cells::compare([&sparse, &full], seed);
+            load::compare();
         }
         "--cells" => cells::print(images, seed),
         _ => {
             head();
             run(images, true);
-            println!("no call");
-            println!("  {:52}{:8.2}", "one copy of an image, by the C library's memcpy", copy_time(&full));
+            alone::print(&full);
             println!("the best of all rounds of {} ms, the sides in turn, for {} ms a case", ROUND.as_millis(), CASE.as_millis());
         }
     }
@@ -52,6 +56,18 @@ fn main() {
 fn usage() -> ! {
     eprintln!("{USAGE}");
     exit(2)
+}
+
+fn number(word: &str) -> u64 {
+    word.parse().unwrap_or_else(|_| usage())
+}
+
+/// As many as there are numbers of records.
+fn record_count(word: &str) -> u64 {
+    match number(word) {
+        0 | 0x1_0000_0000.. => usage(),
+        count => count,
+    }
 }
 
 /// Every case on both images: the sides have to agree, and are then timed. How many cases.
@@ -120,22 +136,6 @@ fn round(case: &Case, side: &mut dyn Side, answers: &[Answer]) -> f64 {
         }
         times = (2 * times).min(32);
     }
-}
-
-/// Microseconds that one copy of an image takes: the best of rounds.
-fn copy_time(image: &[u8]) -> f64 {
-    let mut copy = image.to_vec();
-    let mut best = f64::MAX;
-    let start = Instant::now();
-    while start.elapsed() < CASE {
-        let (round, mut times) = (Instant::now(), 0);
-        while round.elapsed() < ROUND {
-            (0..32).for_each(|_| black_box(&mut copy[..]).copy_from_slice(black_box(image)));
-            times += 32;
-        }
-        best = best.min(round.elapsed().as_secs_f64() * 1e6 / times as f64);
-    }
-    best
 }
 
 fn head() {

@@ -1,7 +1,8 @@
 //! The three sides that are timed. Each keeps its own image, journal and event buffer.
 use model::vault::{Call, Done, Vault};
-use model::{journal, record};
+use model::{journal, moves, record};
 use reference::{Changes, Loaded};
+use std::mem::swap;
 use token_vault::exports;
 
 /// What a call answers: its number (0 when done), its value and how many events it wrote.
@@ -24,6 +25,8 @@ pub struct Held<'a> {
 pub trait Side {
     fn call(&mut self, call: &Call) -> Answer;
     fn held(&self) -> Held<'_>;
+    /// Takes another event buffer, and gives the one with the events of the last operation.
+    fn exchange_events(&mut self, events: &mut Vec<u8>);
 }
 
 /// The three, from one image; with no journal, only operations and previews are called.
@@ -90,6 +93,10 @@ impl Side for Library {
     fn held(&self) -> Held<'_> {
         held(&self.vault, self.with_journal, &self.events)
     }
+
+    fn exchange_events(&mut self, events: &mut Vec<u8>) {
+        swap(&mut self.events, events);
+    }
 }
 
 /// The Rust contract on a host that is loaded from the image and stored back for each operation, as the comparison runs it.
@@ -115,6 +122,10 @@ impl Side for NewHost {
     fn held(&self) -> Held<'_> {
         held(&self.vault, self.with_journal, &self.events)
     }
+
+    fn exchange_events(&mut self, events: &mut Vec<u8>) {
+        swap(&mut self.events, events);
+    }
 }
 
 /// The Rust contract on a host that stays loaded. The image is kept too: each call tests it, and an accepted one writes to it
@@ -131,6 +142,9 @@ struct KeptHost {
 impl KeptHost {
     fn operation(&mut self, record: &[u8]) -> Answer {
         self.events.fill(0);
+        if record[0] > 28 {
+            return plain(self.outside(record));
+        }
         let done = match self.host.operation(record) {
             Ok(done) => done,
             Err(number) => return plain(number),
@@ -149,6 +163,17 @@ impl KeptHost {
             self.host.store(&done.changes, image);
         }
         self.done(done.value, &done.events)
+    }
+
+    /// Operations 29 and 30, which the contract does not have: by the model. No case has them in a transaction.
+    fn outside(&mut self, record: &[u8]) -> u32 {
+        let Vault { image, journal } = &mut self.vault;
+        assert!(!journal::is_open(journal), "operation {} in a transaction", record[0]);
+        let number = moves::operation(image, record);
+        if number == 0 {
+            self.host.load_token(image, record[2] as usize);
+        }
+        number
     }
 
     /// An operation in the host that is taken back; the image stays.
@@ -202,5 +227,9 @@ impl Side for KeptHost {
 
     fn held(&self) -> Held<'_> {
         held(&self.vault, self.with_journal, &self.events)
+    }
+
+    fn exchange_events(&mut self, events: &mut Vec<u8>) {
+        swap(&mut self.events, events);
     }
 }

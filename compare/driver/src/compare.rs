@@ -12,7 +12,7 @@ pub fn operate(image: &[u8], record: &[u8]) -> Done {
         return Done { number: done.number, value: done.value, events: done.events, image: after };
     }
     let mut after = image.to_vec();
-    let number = if record[0] == 29 { moves::outside_move(&mut after, record) } else { moves::freeze(&mut after, record) };
+    let number = moves::operation(&mut after, record);
     Done { number, value: 0, events: Vec::new(), image: after }
 }
 

@@ -46,19 +46,19 @@ pub fn call_fenced(vault: &mut Vault, call: &Call, with_journal: bool) -> (Answe
 
 const FENCE: usize = 48;
 
-struct Fenced(Vec<u8>);
+pub struct Fenced(Vec<u8>);
 
 impl Fenced {
-    fn of(list: &[u8]) -> Fenced {
+    pub fn of(list: &[u8]) -> Fenced {
         Fenced([&[0x5a; FENCE], list, &[0xc3; FENCE]].concat())
     }
 
-    fn list(&mut self) -> &mut [u8] {
+    pub fn list(&mut self) -> &mut [u8] {
         let end = self.0.len() - FENCE;
         &mut self.0[FENCE..end]
     }
 
-    fn whole(&self) -> bool {
+    pub fn whole(&self) -> bool {
         self.0[..FENCE] == [0x5a; FENCE] && self.0[self.0.len() - FENCE..] == [0xc3; FENCE]
     }
 }

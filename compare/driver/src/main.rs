@@ -11,35 +11,42 @@ mod generate;
 mod mistake;
 mod previews;
 mod program;
+mod report;
 mod scenario;
 mod situation;
 mod start_image;
 mod stream;
 mod sweep;
 mod table;
+mod trial;
+mod trial_mistake;
 mod vectors;
 mod wrong_program;
 
-use model::vault::Call;
 use scenario::{Failure, Run};
+use std::fmt::Display;
 use std::panic::{catch_unwind, resume_unwind, AssertUnwindSafe};
 use std::path::PathBuf;
 use std::process::exit;
 use std::sync::atomic::{AtomicBool, AtomicU64, Ordering};
 use std::time::Instant;
 
+#[derive(Default)]
 struct Options {
     calls: u64,
     seed: u64,
     jobs: u64,
     scenario: Option<u64>,
     vectors: Option<PathBuf>,
+    /// Starting number, first number and how many.
+    trial_records: Option<[u64; 3]>,
     program: bool,
     self_test: bool,
     partial: bool,
 }
 
 const USAGE: &str = "driver [--calls N] [--seed S] [--jobs J] [--scenario N] [--vectors FOLDER] [--program] [--self-test] [--partial]
+driver --trial-records START FIRST COUNT
   --calls N     at least so many calls (1000000)
   --seed S      the run's seed (1)
   --jobs J      so many threads (1)
@@ -48,7 +55,9 @@ const USAGE: &str = "driver [--calls N] [--seed S] [--jobs J] [--scenario N] [--
   --program     compare the lines of the program (VAULT_PROGRAM, or target/bin/token_vault_main) on streams of records;
                 then wrong programs on the same, each of which has to be found
   --self-test   plant mistakes in the Rust side's outcome; each has to be found
-  --partial     a pair of operation and answer, of a call or a preview, that was not reached is no failure";
+  --partial     a pair of operation and answer, of a call or a preview, that was not reached is no failure
+  --trial-records START FIRST COUNT
+                write so many trial records, made by the model, to standard output";
 
 fn usage() -> ! {
     eprintln!("{USAGE}");
@@ -60,8 +69,7 @@ fn number(word: String) -> u64 {
 }
 
 fn options() -> Options {
-    let mut o =
-        Options { calls: 1_000_000, seed: 1, jobs: 1, scenario: None, vectors: None, program: false, self_test: false, partial: false };
+    let mut o = Options { calls: 1_000_000, seed: 1, jobs: 1, ..Options::default() };
     let mut words = std::env::args().skip(1);
     while let Some(word) = words.next() {
         let mut next = || words.next().unwrap_or_else(|| usage());
@@ -71,6 +79,7 @@ fn options() -> Options {
             "--jobs" => o.jobs = number(next()).max(1),
             "--scenario" => o.scenario = Some(number(next())),
             "--vectors" => o.vectors = Some(next().into()),
+            "--trial-records" => o.trial_records = Some([(); 3].map(|()| number(next()))),
             "--program" => o.program = true,
             "--self-test" => o.self_test = true,
             "--partial" => o.partial = true,
@@ -89,39 +98,50 @@ fn main() {
         self_test(o.seed, o.calls);
         return;
     }
-    if let Some(folder) = &o.vectors {
-        if let Err(error) = vectors::write(folder, o.seed) {
-            eprintln!("{}: {error}", folder.display());
-            exit(1);
-        }
+    if let Some(request) = o.trial_records {
+        trial::write(request).unwrap_or_else(|error| not_written("driver", error));
         return;
     }
-    let mut run = Run::new(o.seed, None);
+    if let Some(folder) = &o.vectors {
+        vectors::write(folder, o.seed).unwrap_or_else(|error| not_written(folder.display(), error));
+        return;
+    }
     if let Some(n) = o.scenario {
-        if let Err(failure) = run.scenario(n) {
-            report(o.seed, &failure);
-            exit(1);
-        }
+        let mut run = Run::new(o.seed, None);
+        run.scenario(n).unwrap_or_else(|failure| failed(o.seed, &failure));
         println!("scenario {n}: {} calls and {} previews, no difference", run.calls, run.previews.all());
         return;
     }
     cases::run();
+    trial::run(o.seed).unwrap_or_else(|difference| differs(o.seed, &difference));
     let start = Instant::now();
-    match sweep::run(o.seed) {
-        Ok(made) => {
-            let seconds = start.elapsed().as_secs_f64();
-            println!("{} calls and {} previews on changed bytes and lengths, {seconds:.1} s", made.calls, made.previews)
-        }
-        Err(difference) => {
-            println!("DIFFERENCE, seed {}: {difference}", o.seed);
-            exit(1);
-        }
-    }
+    let made = sweep::run(o.seed).unwrap_or_else(|difference| differs(o.seed, &difference));
+    let seconds = start.elapsed().as_secs_f64();
+    println!("{} calls and {} previews on changed bytes and lengths, {seconds:.1} s", made.calls, made.previews);
+    scenarios(&o);
+}
+
+fn not_written(place: impl Display, error: std::io::Error) -> ! {
+    eprintln!("{place}: {error}");
+    exit(1)
+}
+
+fn differs(seed: u64, difference: &str) -> ! {
+    println!("DIFFERENCE, seed {seed}: {difference}");
+    exit(1)
+}
+
+fn failed(seed: u64, failure: &Failure) -> ! {
+    report::difference(seed, failure);
+    exit(1)
+}
+
+/// The scenarios of the run, and whether they reached all that they have to.
+fn scenarios(o: &Options) {
     let start = Instant::now();
-    let (run, scenarios, failure) = all_scenarios(&o, start);
+    let (run, scenarios, failure) = all_scenarios(o, start);
     if let Some(failure) = failure {
-        report(o.seed, &failure);
-        exit(1);
+        failed(o.seed, &failure);
     }
     let seconds = start.elapsed().as_secs_f64();
     run.table.print();
@@ -223,70 +243,5 @@ fn self_test(seed: u64, calls: u64) {
     println!("{} planted mistakes found, {missed} missed", mistake::ALL.len() - missed);
     if missed > 0 {
         exit(1);
-    }
-}
-
-fn hex(bytes: &[u8]) -> String {
-    bytes.iter().map(|b| format!("{b:02x}")).collect()
-}
-
-/// The cells that are not zero, or in which two lists differ.
-fn cells(bytes: &[u8], other: Option<&[u8]>) {
-    for (i, cell) in bytes.chunks(16).enumerate() {
-        let beside = other.map(|o| &o[(16 * i).min(o.len())..(16 * i + 16).min(o.len())]);
-        match beside {
-            Some(o) if o != cell => println!("  {:5}  vault {}  rust {}", 16 * i, hex(cell), hex(o)),
-            None if cell.iter().any(|b| *b != 0) => println!("  {:5}  {}", 16 * i, hex(cell)),
-            _ => {}
-        }
-    }
-}
-
-fn report(seed: u64, f: &Failure) {
-    let d = &f.difference;
-    println!("DIFFERENCE in {}: seed {seed}, scenario {}, call {}", d.what, f.scenario, f.call_number);
-    println!("again with: driver --seed {seed} --scenario {}", f.scenario);
-    print_call(&f.call);
-    println!("with a journal: {}", f.with_journal);
-    if f.before.image.is_empty() {
-        println!("below, \"rust\" is the second vault, which got the kept list");
-    }
-    if d.what == compare::AFTER_PREVIEW {
-        println!("below, the answer of \"rust\" is that of the vault's preview");
-    }
-    for (name, a) in [("vault", &d.vault_answer), ("rust ", &d.rust_answer)] {
-        println!("{name} number {} value {} count {}", a.number, a.value, a.count);
-    }
-    println!("event bytes that differ:");
-    cells(&d.vault_answer.events, Some(&d.rust_answer.events));
-    println!("image bytes that differ:");
-    cells(&d.vault.image, Some(&d.rust.image));
-    println!("journal bytes that differ:");
-    cells(&d.vault.journal, Some(&d.rust.journal));
-    println!("image before:");
-    cells(&f.before.image, None);
-    println!("journal before ({} bytes):", f.before.journal.len());
-    cells(&f.before.journal, None);
-    if f.before.image.is_empty() {
-        return;
-    }
-    let (start, call) = compare::shrink(&f.before, &f.call, f.with_journal, &d.what, None);
-    println!("A smaller input with a difference in {}:", d.what);
-    print_call(&call);
-    println!("image before:");
-    cells(&start.image, None);
-}
-
-fn print_call(call: &Call) {
-    match call {
-        Call::Operation { record, events } | Call::Preview { record, events } => {
-            let of = if matches!(call, Call::Preview { .. }) { "preview of " } else { "" };
-            println!("{of}operation {:?}, record of {} bytes:", record.first(), record.len());
-            for (i, row) in record.chunks(32).enumerate() {
-                println!("  {:4}  {}", 32 * i, hex(row));
-            }
-            println!("event buffer of {} bytes", events.len());
-        }
-        other => println!("{}", table::Table::name(other)),
     }
 }

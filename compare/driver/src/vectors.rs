@@ -3,7 +3,7 @@ use crate::compare::{copy, operate};
 use crate::scenario::{list_operation, operation};
 use crate::situation::{Seen, Situations};
 use crate::table::Table;
-use crate::{bad_images, bad_journals, cases, directed, fields, generate, previews};
+use crate::{bad_images, bad_journals, cases, directed, fields, generate, previews, trial};
 use model::image::LENGTH;
 use model::random::Random;
 use model::vault::{Answer, Call, Vault};
@@ -235,13 +235,23 @@ fn line(answer: &Answer, vault: &Vault) -> String {
     )
 }
 
+/// The lists in the order of docs/VECTORS.md.
+fn all(seed: u64) -> Vec<List> {
+    let mut all = lists(seed);
+    all.extend(directed::lists());
+    all.extend(bad_images::lists());
+    all.extend(bad_journals::lists());
+    all.extend(fields::lists());
+    all.extend(cases::lists());
+    all.extend(previews::lists(seed));
+    all.extend(trial::lists());
+    all
+}
+
 /// Writes the calls to `stdin` and the answers to `stdout` in a folder.
 pub fn write(folder: &Path, seed: u64) -> std::io::Result<()> {
     let (mut bytes, mut lines, mut calls) = (Vec::new(), String::new(), 0);
-    let mut lists = lists(seed);
-    for more in [directed::lists(), bad_images::lists(), bad_journals::lists(), fields::lists(), cases::lists(), previews::lists(seed)] {
-        lists.extend(more);
-    }
+    let lists = all(seed);
     for list in &lists {
         let mut vault = list.start.clone();
         for n in [vault.image.len(), vault.journal.len(), list.calls.len(), 0] {

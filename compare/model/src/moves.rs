@@ -21,8 +21,17 @@ pub fn transfer(image: &mut [u8], token: usize, from: usize, to: usize, moved: i
     true
 }
 
+/// Operation 29 or 30; a refused one changes nothing.
+pub fn operation(image: &mut [u8], record: &[u8]) -> u32 {
+    if record[0] == 29 {
+        outside_move(image, record)
+    } else {
+        freeze(image, record)
+    }
+}
+
 /// 14 sender is 1; 4; 23.
-pub fn outside_move(image: &mut [u8], record: &[u8]) -> u32 {
+fn outside_move(image: &mut [u8], record: &[u8]) -> u32 {
     let moved = amount(record, 32);
     if record[1] == 1 {
         14
@@ -36,7 +45,7 @@ pub fn outside_move(image: &mut [u8], record: &[u8]) -> u32 {
 }
 
 /// 14 token absent.
-pub fn freeze(image: &mut [u8], record: &[u8]) -> u32 {
+fn freeze(image: &mut [u8], record: &[u8]) -> u32 {
     let token = record[2] as usize;
     if kind(image, token) == 0 {
         return 14;

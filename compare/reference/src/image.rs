@@ -7,14 +7,6 @@ use std::collections::HashMap;
 
 /// A host that holds what a good image holds, before any call.
 pub fn load(image: &[u8]) -> Env {
-    let mut tokens = [Token { kind: 0, toll: 0, holdings: [0; 64] }; 16];
-    for (i, token) in tokens.iter_mut().enumerate() {
-        token.kind = image[3680 + 24 * i];
-        token.toll = amount(image, 3688 + 24 * i);
-        for a in 0..64 {
-            token.holdings[a] = amount(image, 4064 + 1024 * i + 16 * a);
-        }
-    }
     let env = Env::of(Host {
         instance: HashMap::new(),
         persistent: HashMap::new(),
@@ -22,13 +14,19 @@ pub fn load(image: &[u8]) -> Env {
         timestamp: 0,
         sequence: 0,
         signers: 0,
-        tokens,
+        tokens: std::array::from_fn(|i| token(image, i)),
         events: Vec::new(),
         changes: None,
     });
     load_instance(&env, image);
     load_tables(&env, image);
     env
+}
+
+/// The token of a slot.
+pub fn token(image: &[u8], i: usize) -> Token {
+    let holdings = std::array::from_fn(|a| amount(image, 4064 + 1024 * i + 16 * a));
+    Token { kind: image[3680 + 24 * i], toll: amount(image, 3688 + 24 * i), holdings }
 }
 
 fn load_instance(env: &Env, image: &[u8]) {

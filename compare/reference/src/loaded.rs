@@ -38,6 +38,11 @@ impl Loaded {
         image::store_changes(&self.0, &changes.0, image);
     }
 
+    /// Takes a token over from the image, after an operation that the contract does not have. It cannot be taken back.
+    pub fn load_token(&self, image: &[u8], token: usize) {
+        self.0.with(|host| host.tokens[token - 48] = image::token(image, token - 48));
+    }
+
     /// Undoes the last accepted call, whose changes these are.
     pub fn take_back(&self, changes: Changes) {
         self.0.with(|host| host.take_back(changes.0));
