@@ -95,7 +95,7 @@ pub record Trial : Type 0 where
 abbrev pub made : (start first n : ℕ) → Trial
 made start first n = record { number = 0; buffer = recordsFrom start first n; reached = reachedFrom start n }
 
--- a refusal leaves the buffer as it was lent, and reaches nothing
+-- a refusal leaves the buffer as it was lent, and the generator at its starting number
 abbrev pub refused : (number start : ℕ) → (buffer : List ℕ) → Trial
 refused number start buffer = record { number = number; buffer = buffer; reached = start }
 
