@@ -213,15 +213,15 @@ fn write_records(start: u64, first: u64, count: u64) -> Written
 }
 
 // ---- what is wrong with the arguments
-// Every byte of standard error goes through here, and all of them are the line of the fault that the arguments have.
+// Every byte of standard error goes through here, and all of them are the line of a fault.
 fn write_fault_line(line: &[u8], fault: u8) -> bool
-    requires { ⌜ now line ≡ faultLine fault ⌝ }
+    requires { ⌜ (now line ≡ faultLine fault) × (0 < fault) × (fault ≤ 6) ⌝ }
 {
     io::write_all(STDERR_FILENO, line)
 }
 
 fn write_sentence(sentence: &[u8], fault: u8) -> bool
-    requires { ⌜ (now sentence ≡ faultText fault) × (length (now sentence) ≤ 80) ⌝ }
+    requires { ⌜ (now sentence ≡ faultText fault) × (length (now sentence) ≤ 80) × (0 < fault) × (fault ≤ 6) ⌝ }
 {
     let mut out = [0u8; 128];
     let start = answer_line::write_message(&mut out, 128, b"token_vault_trial: ", sentence);

@@ -11,42 +11,42 @@ slice-aggregate-write-sentence c = search needs
 
 write-sentence-requires : tie.Need-write-sentence-requires
 unfolding sentences faultText
-write-sentence-requires c κs = let e : c .before .before .args .fault ≡ 1 = omega arith in (rw e refl, search needs)
+write-sentence-requires c κs = let e : c .before .before .args .fault ≡ 1 = omega arith in (rw e refl, search needs, c .before .before .pre .0, c .before .before .pre .1)
 
 slice-aggregate-write-sentence-2 : tie.Need-slice-aggregate-write-sentence-2
 slice-aggregate-write-sentence-2 c = search needs
 
 write-sentence-requires-2 : tie.Need-write-sentence-requires-2
 unfolding sentences faultText
-write-sentence-requires-2 c κs = let e : c .before .before .args .fault ≡ 2 = omega arith in (rw e refl, search needs)
+write-sentence-requires-2 c κs = let e : c .before .before .args .fault ≡ 2 = omega arith in (rw e refl, search needs, c .before .before .pre .0, c .before .before .pre .1)
 
 slice-aggregate-write-sentence-3 : tie.Need-slice-aggregate-write-sentence-3
 slice-aggregate-write-sentence-3 c = search needs
 
 write-sentence-requires-3 : tie.Need-write-sentence-requires-3
 unfolding sentences faultText
-write-sentence-requires-3 c κs = let e : c .before .before .args .fault ≡ 3 = omega arith in (rw e refl, search needs)
+write-sentence-requires-3 c κs = let e : c .before .before .args .fault ≡ 3 = omega arith in (rw e refl, search needs, c .before .before .pre .0, c .before .before .pre .1)
 
 slice-aggregate-write-sentence-4 : tie.Need-slice-aggregate-write-sentence-4
 slice-aggregate-write-sentence-4 c = search needs
 
 write-sentence-requires-4 : tie.Need-write-sentence-requires-4
 unfolding sentences faultText
-write-sentence-requires-4 c κs = let e : c .before .before .args .fault ≡ 4 = omega arith in (rw e refl, search needs)
+write-sentence-requires-4 c κs = let e : c .before .before .args .fault ≡ 4 = omega arith in (rw e refl, search needs, c .before .before .pre .0, c .before .before .pre .1)
 
 slice-aggregate-write-sentence-5 : tie.Need-slice-aggregate-write-sentence-5
 slice-aggregate-write-sentence-5 c = search needs
 
 write-sentence-requires-5 : tie.Need-write-sentence-requires-5
 unfolding sentences faultText
-write-sentence-requires-5 c κs = let e : c .before .before .args .fault ≡ 5 = omega arith in (rw e refl, search needs)
+write-sentence-requires-5 c κs = let e : c .before .before .args .fault ≡ 5 = omega arith in (rw e refl, search needs, c .before .before .pre .0, c .before .before .pre .1)
 
 slice-aggregate-write-sentence-6 : tie.Need-slice-aggregate-write-sentence-6
 slice-aggregate-write-sentence-6 c = search needs
 
 write-sentence-requires-6 : tie.Need-write-sentence-requires-6
 unfolding sentences faultText
-write-sentence-requires-6 c κs = let e : c .before .before .args .fault ≡ 6 = omega arith in (rw e refl, search needs)
+write-sentence-requires-6 c κs = let e : c .before .before .args .fault ≡ 6 = omega arith in (rw e refl, search needs, c .before .before .pre .0, c .before .before .pre .1)
 
 returns : tie.Need-returns
 returns c = search needs

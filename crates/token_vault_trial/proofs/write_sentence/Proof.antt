@@ -34,8 +34,9 @@ write-fault-line-requires : tie.Need-write-fault-line-requires
 unfolding faultLine
 write-fault-line-requires c κs =
     let w = c .before .before .before .write-message in
+    let p = c .before .before .before .before .before .before .before .pre in
     let h : length (drop (w .result) (w .last .0)) ≤ length (w .last .0) - w .result = simp length-drop (omega arith) in
-    rw (take-all _ _ h, w .ensures .0, c .before .before .before .before .before .before .before .pre .0) refl
+    (rw (take-all _ _ h, w .ensures .0, p .0) refl, p .2, p .3)
 
 returns : tie.Need-returns
 returns c = search needs
