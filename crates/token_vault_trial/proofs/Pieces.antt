@@ -6,7 +6,7 @@ use native.Mathlib.Omega.{arith}
 use lib.ListN.{length}
 use Rattle.trial_records.specs.Laws.{records-long, records-made, reached-parts}
 use Rattle.trial_records.specs.Trial.{Trial, recordsFrom, reachedFrom, trial, TrialIs}
-use Rattle.token_vault_trial.specs.Parts.{IsPiece}
+use Rattle.token_vault_trial.specs.Run.{IsPiece}
 
 -- n records behind the first `made`, which reached `last`: they were made in the buffer l, and m came of it
 module _ (start first made n last : ℕ) (l m : List ℕ) (number reached : ℕ) (h : last ≡ reachedFrom start made) (e : length l ≡ 448 * n) (p : 1 ≤ first)

@@ -18,7 +18,7 @@ pub data Reading : Type 0 where
 unfoldable pub isDigit : ℕ → Bool
 isDigit b = leb 48 b and leb b 57
 
--- the digits l, behind others that make n
+-- the digits l, behind others that make n; where b - 48 would be cut off at 0, b is no digit
 unfoldable pub digitsAfter : (n : ℕ) → List ℕ → Reading
 digitsAfter n [] = number n
 digitsAfter n (b ∷ l) =

@@ -1,3 +1,3 @@
 -- What the contracts cite.
 pub mod Arguments
-pub mod Parts
+pub mod Run

@@ -9,7 +9,7 @@ ghost use lib.Dec.{ltb};
 ghost use lib.ListN.{length};
 ghost use Rattle.trial_records.specs.Trial.{reachedFrom};
 ghost use Rattle.token_vault_trial.specs.Arguments.{malformed, isDigit, digitsAfter, readDecimal, argumentFault, faultText, faultLine};
-ghost use Rattle.token_vault_trial.specs.Parts.{readingOf, IsPiece, RunIs};
+ghost use Rattle.token_vault_trial.specs.Run.{readingOf, IsPiece, RunIs};
 
 // ---- the arguments
 // A number, or none.

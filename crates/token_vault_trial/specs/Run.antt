@@ -1,4 +1,4 @@
--- What helper functions owe: what the code has read, and which records a piece holds.
+-- What the program does: the arguments as it has read them, the records of a piece that it writes, and how a run ends.
 use mathlib.Core.Path.{_≡_}
 use mathlib.Core.Bool.{Bool, true}
 use mathlib.Core.List.{List}
