@@ -4,7 +4,7 @@ use mathlib.Core.List.{List}
 use Prim.Native.Nat.{ℕ, _+_, _≤_, _<_}
 use native.Mathlib.Omega.{arith}
 use Rattle.token.specs.Token.{transferRules, transferOf}
-use Rattle.token.specs.Laws.{only-transfer, transfer-elsewhere, good-transfer}
+use Rattle.token.specs.Laws.{only-transfer, transfer-tolls, transfer-elsewhere, good-transfer}
 use Rattle.storage.specs.Kept.{setCredit-below, setCredit-above, good-setCredit, only-recordBalance, good-recordBalance}
 use Rattle.storage.specs.Facts.{Good}
 use Rattle.storage.specs.Setters.{setCredit, recordBalance}
@@ -66,7 +66,7 @@ module _ (l : List ℕ) (t from to n : ℕ) (g : Good l) (fh : from < 64) (toh :
         good = good-transfer l t from to n g fh toh p f;
         this = refl;
         other = λ u h d. transfer-elsewhere l t from to n fh toh u 1 (omega arith) d;
-        tolls = λ u h. same-amountAt (tollAt u) (under (tollAt u) 16 (holdingsAt (slot t)) 1024 o (omega arith));
+        tolls = transfer-tolls l t from to n fh toh;
         kinds = λ u h. same-le 8 (tokenAt u) (under (tokenAt u) 8 (holdingsAt (slot t)) 1024 o (omega arith));
         token = same-le 1 3 (under 3 1 (holdingsAt (slot t)) 1024 o (omega arith));
         to = same-le 1 7 (under 7 1 (holdingsAt (slot t)) 1024 o (omega arith));

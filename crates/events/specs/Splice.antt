@@ -1,13 +1,13 @@
 -- Bytes laid over a part of a list, and the bytes of a number and of an amount as lists.
 use mathlib.Core.Path.{_≡_, refl, sym, ap, _∙_}
-use mathlib.Core.List.{List, [], _∷_, _++_, append-assoc}
+use mathlib.Core.List.{List, [], _∷_, _++_, append-assoc, append-nil}
 use Prim.Native.Nat.{ℕ, zero, suc, _+_, _*_, _/_, _%_, _^_, _≤_, _<_}
 use native.Mathlib.Nat.{add-zero, zero-add, add-suc, suc-add, pow-suc, mod-lt, div-add-mod', div-lt-iff-lt-mul}
 use native.Mathlib.Numerals.{add-one, one-add}
 use native.Mathlib.Omega.{arith}
 use lib.Dec.{lit<}
 use lib.ListN.{length, take, drop, getD, set, length-append, length-take, length-drop, length-set, take-append-drop}
-use lib.Seq.{length-take-le, take-at, drop-at, drop-drop, set-split, getD-append-add}
+use lib.Seq.{length-take-le, take-at, drop-at, drop-drop, drop-length, set-split, getD-append-add}
 use Rattle.fields.specs.Bytes.{le, put, length-put}
 use Rattle.amount.specs.Biased.{bias, amountAt, putAmount}
 use Rattle.amount.specs.Laws.{full-parts, flip-back}
@@ -82,6 +82,13 @@ putAmount-splice l at n h =
     put-splice 8 (put 8 l at x) (at + 8) y (omega arith)
     ∙ ap (λ (k : List ℕ). splice k (at + 8) (bytesOf 8 y)) (put-splice 8 l at x (omega arith))
     ∙ splice-then l at 8 (bytesOf 8 x) (bytesOf 8 y) (length-bytesOf 8 x) (rw length-bytesOf (omega arith))
+
+-- .. over a list of sixteen bytes
+pub putAmount-whole : (l : List ℕ) (n : ℕ) → length l ≡ 16 → putAmount l 0 n ≡ amountBytes n
+unfolding splice
+putAmount-whole l n h =
+    let e : drop 16 l ≡ [] = ap (λ (k : ℕ). drop k l) (sym h) ∙ drop-length l in
+    putAmount-splice l 0 n (omega arith) ∙ rw (length-amountBytes, e) (append-nil (amountBytes n))
 
 -- a number, and an amount, written just after the k bytes a
 module _ (l : List ℕ) (at k : ℕ) (a : List ℕ) (e : length a ≡ k) where

@@ -1,5 +1,5 @@
 -- What operations 29 and 30 owe to demand 3.
-use mathlib.Core.Path.{_≡_, refl, sym}
+use mathlib.Core.Path.{_≡_, refl, sym, _∙_}
 use mathlib.Core.List.{List}
 use Prim.Native.Nat.{ℕ, _+_, _-_, _<_}
 use native.Mathlib.Decide.{ℕ-discrete}
@@ -14,11 +14,11 @@ use Rattle.book.specs.Owed.{Owed}
 use Rattle.outcome.specs.FormedLaws.{caller-in, other-in}
 use Rattle.record.specs.Form.{member, readsCaller, readsOther}
 use Rattle.record.specs.Record.{operationOf, callerOf, tokenOf, otherOf, flagOf, amountOf}
-use Rattle.token.specs.Token.{arrives, received, transferRules, transferOf}
-use Rattle.token.specs.Laws.{debited-other, transfer-to, transfer-other, good-transfer}
+use Rattle.token.specs.Token.{arrives, transferRules, transferOf}
+use Rattle.token.specs.Laws.{transfer-arrives, transfer-other, good-transfer}
 use Rattle.storage.specs.Facts.{Good}
 use Rattle.storage.specs.Writes.{good-kind}
-use Rattle.image.specs.Layout.{slot, holding}
+use Rattle.image.specs.Layout.{slot, toll, holding}
 use Rattle.amount.specs.Biased.{bias}
 use Rattle.fields.specs.Logic.{_and_}
 use Rattle.fields.specs.Rules.{AllFail, pick}
@@ -32,12 +32,11 @@ enter-29 b r e o = rw o
 
 module _ (l : List ℕ) (from t to n : ℕ) (g : Good l) (fh : from < 64) (toh : to < 64) (s : from ≡ 1 → ⊥) (p : bias < n) (f : AllFail (transferRules l t from to n)) where
   -- to the vault: what arrives is added
-  arrived : to ≡ 1 → holding (transferOf l t from to n) (slot t) 1 ≡ holding l (slot t) 1 + arrives l t n
-  unfolding received
+  arrived : to ≡ 1 → holding (transferOf l t from to n) (slot t) 1 ≡ holding l (slot t) 1 + arrives (toll l (slot t)) n
   arrived q =
       let (low, (high, (moving, (enough, (fits, _))))) = f in
-      let h = transfer-to l t from to n (g .long) high fh toh fits in
-      rw q (rw (q, debited-other l t from n 1 (λ y. s (sym y))) at h)
+      let h = transfer-arrives l t from to n (g .long) high fh toh (λ e. s (e ∙ q)) fits in
+      rw q (rw q at h)
 
   outside-booked : (b : Book) → BookIs b l → BookIs (pick (eqb to 1) (adds t (integerOf n) b) b) (transferOf l t from to n)
   unfolding arrives

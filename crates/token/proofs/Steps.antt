@@ -27,15 +27,15 @@ module _ (l : List ℕ) (t from to n : ℕ) where
   unfolding debited
   debit-is e f g = rw (e, f, g)
 
-  pub transfer-is : {y z : List ℕ} {m h g : ℕ} → y ≡ debited l t from n → h ≡ holding y (slot t) to → g ≡ bias + arrives l t n → z ≡ putAmount y (holdingAt (slot t) to) m → m ≡ h + g - bias
+  pub transfer-is : {y z : List ℕ} {m h g : ℕ} → y ≡ debited l t from n → h ≡ holding y (slot t) to → g ≡ bias + arrives (toll l (slot t)) n → z ≡ putAmount y (holdingAt (slot t) to) m → m ≡ h + g - bias
       → z ≡ transferOf l t from to n
   unfolding transferOf received
   transfer-is {y} {z} {m} {h} {g} e a b f q =
       let s : holding y (slot t) to ≡ holding (debited l t from n) (slot t) to = ap (λ (k : List ℕ). holding k (slot t) to) e in
-      let w : m ≡ holding (debited l t from n) (slot t) to + arrives l t n = omega arith in
+      let w : m ≡ holding (debited l t from n) (slot t) to + arrives (toll l (slot t)) n = omega arith in
       rw (f, w, e)
 
-  pub gain-fits : {y : List ℕ} {h g : ℕ} → y ≡ debited l t from n → h ≡ holding y (slot t) to → g ≡ bias + arrives l t n → received l t from to n < bias + bias → (bias ≤ h + g) × (h + g < bias + bias + bias)
+  pub gain-fits : {y : List ℕ} {h g : ℕ} → y ≡ debited l t from n → h ≡ holding y (slot t) to → g ≡ bias + arrives (toll l (slot t)) n → received l t from to n < bias + bias → (bias ≤ h + g) × (h + g < bias + bias + bias)
   unfolding received
   gain-fits {y} {h} {g} e a b f =
       let s : holding y (slot t) to ≡ holding (debited l t from n) (slot t) to = ap (λ (k : List ℕ). holding k (slot t) to) e in

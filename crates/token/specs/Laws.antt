@@ -1,5 +1,5 @@
 -- What a transfer does to the holdings, what it leaves, and that it leaves a good image good.
-use mathlib.Core.Path.{_≡_, refl, _∙_}
+use mathlib.Core.Path.{_≡_, refl, sym, ap, _∙_}
 use mathlib.Core.List.{List}
 use Prim.Native.Nat.{ℕ, _+_, _-_, _≤_, _<_}
 use native.Mathlib.Nat.{le-antisymm}
@@ -8,13 +8,13 @@ use borrow.Author.Tests.{eq-eqb, ne-eqb}
 use lib.ListN.{length}
 use Rattle.storage.specs.Facts.{Good}
 use Rattle.storage.specs.Writes.{good-holding, holding-range}
-use Rattle.image.specs.Layout.{imageLength, slot, tokenAt, holdingsAt, holdingAt, kind, holding}
+use Rattle.image.specs.Layout.{imageLength, slot, tokenAt, tollAt, holdingsAt, holdingAt, toll, kind, holding}
 use Rattle.amount.specs.Frame.{only-putAmount, same-amountAt, row-apart}
 use Rattle.amount.specs.Laws.{by-lt, length-putAmount, amountAt-putAmount, amountAt-putAmount-other}
 use Rattle.amount.specs.Biased.{bias}
 use Rattle.fields.specs.Frame.{Only, only-then, only-in, under, over, same-le}
 use Rattle.fields.specs.Rules.{AllFail, free}
-use Rattle.token.specs.Token.{absentRules, absentNumber, debited, received, transferRules, transferNumber, transferOf, transferred}
+use Rattle.token.specs.Token.{absentRules, absentNumber, arrives, debited, received, transferRules, transferNumber, transferOf, transferred}
 
 pub absent-free : (l : List ℕ) (t : ℕ) {k : ℕ} → k ≡ absentNumber l t → k ≡ 0 → AllFail (absentRules l t)
 unfolding absentNumber
@@ -33,6 +33,11 @@ pub transfer-done : (l : List ℕ) (t from to n : ℕ) → transferNumber l t fr
 unfolding transferred
 transfer-done l t from to n h = rw (eq-eqb (transferNumber l t from to n) 0 h)
 
+-- a higher toll leaves no more
+pub arrives-less : (low high n : ℕ) → low ≤ high → arrives high n ≤ arrives low n
+unfolding arrives
+arrives-less low high n h = omega arith
+
 -- ---- frames: only holdings of the token change
 module _ (l : List ℕ) (t from to n : ℕ) (f : from < 64) (g : to < 64) where
   pub only-debited : Only (holdingsAt (slot t)) 1024 l (debited l t from n)
@@ -44,6 +49,10 @@ module _ (l : List ℕ) (t from to n : ℕ) (f : from < 64) (g : to < 64) where
   only-transfer =
       only-then only-debited
       (only-in (holdingsAt (slot t)) 1024 (holdingAt (slot t) to) 16 (omega arith) (omega arith) (only-putAmount (debited l t from n) (holdingAt (slot t) to) (received l t from to n)))
+
+  -- no toll changes
+  pub transfer-tolls : (u : ℕ) → u < 16 → toll (transferOf l t from to n) u ≡ toll l u
+  transfer-tolls u h = same-amountAt (tollAt u) (under (tollAt u) 16 (holdingsAt (slot t)) 1024 only-transfer (omega arith))
 
 -- ---- the holdings
 module _ (l : List ℕ) (t from n : ℕ) where
@@ -69,6 +78,11 @@ module _ (l : List ℕ) (t from to n : ℕ) where
     pub transfer-to : received l t from to n < bias + bias → holding (transferOf l t from to n) (slot t) to ≡ received l t from to n
     unfolding transferOf debited
     transfer-to b = amountAt-putAmount _ (holdingAt (slot t) to) (received l t from to n) (rw length-putAmount (omega arith)) b
+
+    -- .. where it is not the sender: what it held, and what arrives
+    pub transfer-arrives : (from ≡ to → ⊥) → received l t from to n < bias + bias → holding (transferOf l t from to n) (slot t) to ≡ holding l (slot t) to + arrives (toll l (slot t)) n
+    unfolding received
+    transfer-arrives d b = transfer-to b ∙ ap (λ (k : ℕ). k + arrives (toll l (slot t)) n) (debited-other l t from n to (λ e. d (sym e)))
 
     -- the sender, where it is not the receiver
     pub transfer-from : (from ≡ to → ⊥) → holding l (slot t) from + bias - n < bias + bias → holding (transferOf l t from to n) (slot t) from ≡ holding l (slot t) from + bias - n

@@ -22,9 +22,9 @@ absentNumber l t = verdict (absentRules l t)
 abbrev pub vaultBalance : List ℕ → ℕ
 vaultBalance l = holding l (slot (defaultToken l)) 1
 
--- what a receiver gets of an amount: all but the toll
-unfoldable pub arrives : List ℕ → ℕ → ℕ → ℕ
-arrives l t n = n - toll l (slot t)
+-- what a receiver gets of an amount at a toll: the amount less the toll, never below 0
+unfoldable pub arrives : (toll n : ℕ) → ℕ
+arrives toll n = n - toll
 
 -- the sender loses the amount first
 unfoldable pub debited : List ℕ → ℕ → ℕ → ℕ → List ℕ
@@ -32,7 +32,7 @@ debited l t from n = putAmount l (holdingAt (slot t) from) (holding l (slot t) f
 
 -- what the receiver then has
 unfoldable pub received : List ℕ → ℕ → ℕ → ℕ → ℕ → ℕ
-received l t from to n = holding (debited l t from n) (slot t) to + arrives l t n
+received l t from to n = holding (debited l t from n) (slot t) to + arrives (toll l (slot t)) n
 
 -- no such token; absent or frozen; the sender is short of the amount; the receiver passes 2 ^ 127 - 1
 abbrev pub transferRules : List ℕ → ℕ → ℕ → ℕ → ℕ → List Rule

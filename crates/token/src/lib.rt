@@ -4,7 +4,7 @@ ghost use mathlib.Core.Path.{_≡_};
 ghost use Prim.Native.Nat.{_+_, _<_, _≤_};
 ghost use lib.ListN.{length};
 ghost use Rattle.amount.specs.Biased.{bias, biased, putAmount};
-ghost use Rattle.image.specs.Layout.{imageLength, initialised, slot, holding, holdingAt};
+ghost use Rattle.image.specs.Layout.{imageLength, initialised, slot, toll, holding, holdingAt};
 ghost use Rattle.storage.specs.Facts.{Good};
 ghost use Rattle.token.specs.Token.{absentNumber, vaultBalance, arrives, debited, transferNumber, transferred};
 
@@ -47,12 +47,23 @@ fn set_balance(img: &mut [u8], t: usize, a: usize, n: Amount)
     amount::write_amount(img, 4064 + 1024 * (t - 48) + 16 * a, n);
 }
 
-// What a receiver gets of an amount.
-fn after_toll(img: &[u8], t: usize, n: Amount) -> Amount
-    requires { ⌜ Good (now img) × (48 ≤ t) × (t < 64) × (bias ≤ biased n) ⌝ }
-    ensures { λ r. ⌜ biased r ≡ bias + arrives (now (img .entry)) t (biased n) ⌝ }
+// What a receiver gets of an amount at a toll.
+pub fn arrives(toll: Amount, n: Amount) -> Amount
+    requires { ⌜ bias ≤ biased toll ⌝ }
+    ensures { λ r. ⌜ biased r ≡ bias + arrives (biased toll) (biased n) ⌝ }
 {
-    amount::less_toll(n, amount::read_amount(img, 3688 + 24 * (t - 48)))
+    if amount::below(n, toll) != 0 {
+        return amount::zero();
+    }
+    amount::minus(n, toll)
+}
+
+// What a receiver gets of an amount of the token.
+fn after_toll(img: &[u8], t: usize, n: Amount) -> Amount
+    requires { ⌜ Good (now img) × (48 ≤ t) × (t < 64) ⌝ }
+    ensures { λ r. ⌜ biased r ≡ bias + arrives (toll (now (img .entry)) (slot t)) (biased n) ⌝ }
+{
+    arrives(amount::read_amount(img, 3688 + 24 * (t - 48)), n)
 }
 
 // What the receiver holds once the sender has lost the amount.

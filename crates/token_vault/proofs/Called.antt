@@ -1,12 +1,12 @@
 -- The parts of a call put together: one lemma for each way out of the public functions.
 use mathlib.Core.Path.{_≡_, refl, sym, ap, _∙_}
 use mathlib.Core.Bool.{Bool, true, false}
-use mathlib.Core.List.{List, [], append-nil}
+use mathlib.Core.List.{List, []}
 use Prim.Native.Nat.{ℕ, zero, suc, _+_}
 use native.Mathlib.Nat.{add-zero}
 use native.Mathlib.Decide.{ℕ-discrete}
 use native.Mathlib.Omega.{arith}
-use lib.ListN.{length, replicate}
+use lib.ListN.{length}
 use Rattle.journal.specs.Journal.{contentsOf, goodJournal, room, journalAfter}
 use Rattle.journal.specs.Calls.{Call, operation, begin, commit, rollback, undo, Step, Done}
 use Rattle.journal.proofs.Dispatch.{operated-refused, operated-view, operated-closed, operated-full, operated-entered, step-30, step-31, step-operation, step-begin, step-commit, step-rollback, step-undo}
@@ -16,12 +16,11 @@ use Rattle.journal.specs.Step.{vault, reply, blank, lent, operated, begun, comm
 use Rattle.outcome.specs.Outcome.{Does, Views}
 use Rattle.events.specs.Event.{eventBuffer, bufferNumber}
 use Rattle.events.specs.Buffer.{buffer-none}
-use Rattle.events.specs.Splice.{amountBytes, splice, length-amountBytes, putAmount-splice}
 use Rattle.record.specs.Form.{isView, formNumber}
 use Rattle.record.specs.Record.{operationOf}
 use Rattle.image.specs.Layout.{cells}
 use Rattle.image.specs.Good.{goodImage}
-use Rattle.amount.specs.Biased.{bias, biased, putAmount}
+use Rattle.amount.specs.Biased.{bias, biased}
 use Rattle.fields.specs.Rules.{pick, link-at}
 use Rattle.operations.specs.Operations.{outcomeOf}
 use Rattle.operations.proofs.Silent.{view-silent}
@@ -29,10 +28,6 @@ use Rattle.token_vault.specs.Public.{CallIs, CallAlone, JournalIs, Repli
 use Rattle.token_vault.specs.Vault.{callNumber, byNumber, byForm, op, view, vaultStep}
 
 -- ---- bytes
-pub value-bytes : (n : ℕ) → putAmount (replicate 16 0) 0 n ≡ amountBytes n
-unfolding splice
-value-bytes n = putAmount-splice (replicate 16 0) 0 n (omega arith) ∙ rw (length-amountBytes) (append-nil (amountBytes n))
-
 pub blank-is : eventBuffer [] ≡ blank
 unfolding blank
 blank-is = buffer-none

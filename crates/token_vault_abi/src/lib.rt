@@ -1,10 +1,13 @@
-// The seven calls of the token vault and the trial records for C and Rust: a slice is passed as a pointer and a length, and each number that is written as a pointer.
+// The seven calls of the token vault, its trial records and its toll bounds for C and Rust: a slice is passed as a pointer and a length, sixteen bytes and each number
+// that is written as a pointer.
 ghost use Rattle.journal.specs.Calls.{Call};
 ghost use Rattle.journal.specs.Step.{vault};
 ghost use Rattle.token_vault.specs.Vault.{vaultStep};
 ghost use Rattle.token_vault.specs.Public.{CallIs, CallAlone, closedJournal, JournalIs};
 ghost use Rattle.token_vault.specs.Preview.{previewAnswer, PreviewIs};
 ghost use Rattle.trial_records.specs.Trial.{trial, TrialIs};
+ghost use Rattle.toll_bounds.specs.Bounds.{tollBounds, BoundsAre};
+ghost use Rattle.amount.specs.Biased.{amountAt};
 
 // A call: its number; value and event count are written for every answer.
 #[no_mangle]
@@ -92,4 +95,28 @@ pub extern "C" fn token_vault_trial_records(
     ensures { λ r. ⌜ TrialIs (trial start first (now (records .entry))) r (now (records .exit)) (now (reached .exit)) ⌝ }
 {
     trial_records::trial_records(start, first, records, reached)
+}
+
+// The least and the greatest holding of the vault after amounts are moved in, where the token's toll is known within bounds.
+#[no_mangle]
+pub extern "C" fn token_vault_toll_bounds(
+    image: &[u8],
+    token: u8,
+    amounts: &[u8],
+    least_toll: &[u8; 16],
+    greatest_toll: &[u8; 16],
+    least_holding: &mut [u8; 16],
+    greatest_holding: &mut [u8; 16],
+) -> u32
+    ensures { λ r. ⌜ BoundsAre (tollBounds (now (image .entry)) token (now (amounts .entry)) (amountAt (now («least_toll» .entry)) 0) (amountAt (now («greatest_toll» .entry)) 0)) r (now («least_holding» .exit)) (now («greatest_holding» .exit)) ⌝ }
+{
+    toll_bounds::toll_bounds(
+        image,
+        token,
+        amounts,
+        least_toll,
+        greatest_toll,
+        least_holding,
+        greatest_holding,
+    )
 }

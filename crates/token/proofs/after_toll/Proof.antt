@@ -1,6 +1,5 @@
 -- `token::after_toll` meets its contract.
 use Rattle.token.proofs.Steps.{toll-range}
-use Rattle.token.specs.Token.{arrives}
 use native.Mathlib.Omega.{arith}
 use borrow.Author.Needs.{needs}
 use Rattle.token.proofs.after_toll.Statement.{statement}
@@ -18,12 +17,11 @@ add-read-amount c = search needs
 read-amount-requires : tie.Need-read-amount-requires
 read-amount-requires c κs = search needs
 
-less-toll-requires : tie.Need-less-toll-requires
-less-toll-requires c κs = let s = c .before .before in (search needs, omega (arith, toll-range (s .args .img .now) (s .args .t) (s .pre .0) (omega arith)))
+arrives-requires : tie.Need-arrives-requires
+arrives-requires c κs = let s = c .before .before in omega (arith, toll-range (s .args .img .now) (s .args .t) (s .pre .0) (omega arith))
 
 returns : tie.Need-returns
-unfolding arrives
-returns c = rw (c .before .read-amount .ensures) at (c .less-toll .ensures)
+returns c = rw (c .before .read-amount .ensures) at (c .arrives .ensures)
 
 pub after-toll-spec : {M : Type 1} → statement M
 after-toll-spec =
@@ -33,5 +31,5 @@ after-toll-spec =
     mul-read-amount
     add-read-amount
     read-amount-requires
-    less-toll-requires
+    arrives-requires
     returns)

@@ -18,7 +18,7 @@ returns : tie.Need-returns
 returns c = let x = c .before .before .before .before .args in let e = c .before .transfer-check .ensures in (e, sym (transfer-failed (x .img .now) (x .t) (x .from) (x .to) (biased (x .n)) (λ z. c .if1 .taken (e ∙ z))))
 
 after-toll-requires : tie.Need-after-toll-requires
-after-toll-requires c κs = let f = transfer-free _ _ _ _ _ (c .before .before .transfer-check .ensures) (c .before .if1 .left) in (search needs, omega arith, omega arith, search needs)
+after-toll-requires c κs = let f = transfer-free _ _ _ _ _ (c .before .before .transfer-check .ensures) (c .before .if1 .left) in (search needs, omega arith, omega arith)
 
 balance-requires : tie.Need-balance-requires
 balance-requires c κs = let f = transfer-free _ _ _ _ _ (c .before .before .before .before .transfer-check .ensures) (c .before .before .before .if1 .left) in (search needs, omega arith, omega arith, search needs)

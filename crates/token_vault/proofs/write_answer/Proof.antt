@@ -1,5 +1,5 @@
 -- `token_vault::write_answer` meets its contract.
-use Rattle.token_vault.proofs.Called.{value-bytes}
+use Rattle.events.specs.Splice.{putAmount-whole}
 use mathlib.Core.Path.{refl, _∙_}
 use borrow.Author.Needs.{needs}
 use Rattle.token_vault.proofs.write_answer.Statement.{statement}
@@ -18,7 +18,7 @@ cast-result : tie.Need-cast-result
 cast-result c = search needs
 
 returns : tie.Need-returns
-returns c = (refl, c .before .before .before .write-amount .ensures ∙ value-bytes _, refl)
+returns c = (refl, c .before .before .before .write-amount .ensures ∙ putAmount-whole _ _ refl, refl)
 
 pub write-answer-spec : {M : Type 1} → statement M
 write-answer-spec =

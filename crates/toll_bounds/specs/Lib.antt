@@ -1,0 +1,6 @@
+-- Definitions of toll bounds, and what is said of them.
+pub mod Bounds
+pub mod Laws
+pub mod Theorems
+pub mod Parts
+pub mod Examples
