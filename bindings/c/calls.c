@@ -1,4 +1,4 @@
-/* Calls all eight functions of the token vault, and the readers and writers of its header, and checks their answers. Prints one line; its
+/* Calls all nine functions of the token vault, and the readers and writers of its header, and checks their answers. Prints one line; its
  * status is 1 if an answer was wrong. */
 #include "token_vault.h"
 #include <stdio.h>
@@ -338,6 +338,249 @@ static void trial_records_that_are_refused(void) {
     check_no_records("a sum of 2^64", UINT64_MAX, sizeof record);
 }
 
+/* An image of its own, of a vault that is not initialised: tokens 48 and 63 move, token 50 is frozen, all others are absent. */
+#define FROZEN 50
+#define LAST_TOKEN 63
+static uint8_t season[TOKEN_VAULT_IMAGE_LENGTH];
+
+/* A list of amounts, with room for one more than is allowed, and what is written. */
+static uint8_t list[17 * 16], least[16], greatest[16];
+static size_t list_length;
+
+static struct token_vault_amount small(int64_t number) {
+    return token_vault_amount_from_int64(number);
+}
+
+/* 2^127 - 1, less a number. */
+static struct token_vault_amount below_most(uint64_t number) {
+    struct token_vault_amount amount;
+    amount.low = UINT64_MAX - number;
+    amount.high = INT64_MAX;
+    return amount;
+}
+
+static void put_token(uint8_t token, uint8_t state, struct token_vault_amount held) {
+    season[token_vault_token_place(token)] = state;
+    token_vault_put_amount(season + token_vault_holding_place(token, TOKEN_VAULT_VAULT_ADDRESS), held);
+}
+
+/* The vault holds so much of token 48, and its neighbours other numbers: the 1 of address 0 stands where a token 64 would have its kind. */
+static void begin_season(struct token_vault_amount held) {
+    memset(season, 0, sizeof season);
+    put_token(TOKEN, TOKEN_VAULT_TOKEN_MOVING, held);
+    put_token(FROZEN, TOKEN_VAULT_TOKEN_FROZEN, small(50));
+    put_token(LAST_TOKEN, TOKEN_VAULT_TOKEN_MOVING, small(7));
+    token_vault_put_amount(season + token_vault_holding_place(TOKEN, 0), small(1));
+    token_vault_put_amount(season + token_vault_holding_place(TOKEN, 2), small(13));
+    list_length = 0;
+}
+
+static void add_amount(struct token_vault_amount amount) {
+    token_vault_put_amount(list + list_length, amount);
+    list_length += 16;
+}
+
+/* 10, 5 and 1. */
+static void add_example(void) {
+    add_amount(small(10));
+    add_amount(small(5));
+    add_amount(small(1));
+}
+
+/* Asks for a token and two tolls. Holdings that are not written keep their 0xff; the image, lent as const, stays as it is. */
+static uint32_t ask(uint8_t token, struct token_vault_amount low, struct token_vault_amount high) {
+    const uint8_t *lent = season;
+    uint8_t least_toll[16], greatest_toll[16];
+    uint32_t number;
+    token_vault_put_amount(least_toll, low);
+    token_vault_put_amount(greatest_toll, high);
+    memset(least, 0xff, sizeof least);
+    memset(greatest, 0xff, sizeof greatest);
+    memcpy(before, season, sizeof season);
+    number = token_vault_toll_bounds(lent, sizeof season, token, list, list_length, least_toll, greatest_toll, least, greatest);
+    check("image after toll bounds", memcmp(before, season, sizeof season) == 0, 1);
+    return number;
+}
+
+static void check_holding(const char *what, const uint8_t *found, struct token_vault_amount wanted) {
+    check(what, token_vault_get_amount(found).low, wanted.low);
+    check(what, token_vault_get_amount(found).high == wanted.high, 1);
+}
+
+static void check_bounds(const char *what, int64_t low, int64_t high, struct token_vault_amount at_least,
+                         struct token_vault_amount at_most) {
+    check(what, ask(TOKEN, small(low), small(high)), TOKEN_VAULT_DONE);
+    check_holding(what, least, at_least);
+    check_holding(what, greatest, at_most);
+}
+
+static void check_no_bounds(const char *what, uint32_t found, uint32_t wanted) {
+    check(what, found, wanted);
+    check(what, (uint64_t)are_all(least, sizeof least, 0), 1);
+    check(what, (uint64_t)are_all(greatest, sizeof greatest, 0), 1);
+}
+
+/* What is left of an amount after a toll. */
+static int64_t arrives(int64_t amount, int64_t toll) {
+    return amount > toll ? amount - toll : 0;
+}
+
+static int64_t example_at(int64_t toll) {
+    return 100 + arrives(10, toll) + arrives(5, toll) + arrives(1, toll);
+}
+
+static void toll_bounds(void) {
+    int64_t low, high;
+    begin_season(small(100));
+    check_bounds("no amount", 2, 6, small(100), small(100));
+    add_example();
+    check_bounds("example", 2, 6, small(104), small(111));
+    for (low = 0; low <= 11; low++) {
+        for (high = low; high <= 11; high++) check_bounds("tolls", low, high, small(example_at(high)), small(example_at(low)));
+    }
+    token_vault_put_amount(season + token_vault_token_place(TOKEN) + TOKEN_VAULT_TOKEN_AT_TOLL, small(9));
+    check_bounds("toll in the image", 2, 6, small(104), small(111));
+    begin_season(small(100));
+    while (list_length < 256) add_amount(small(10));
+    check_bounds("sixteen amounts", 2, 6, small(100 + 16 * arrives(10, 6)), small(100 + 16 * arrives(10, 2)));
+    add_amount(small(10));
+    check_no_bounds("seventeen amounts", ask(TOKEN, small(2), small(6)), TOKEN_VAULT_REFUSAL_INVALID_TOLL_BOUNDS);
+}
+
+static void toll_bounds_at_the_ends(void) {
+    struct token_vault_amount large = {0, 1};
+    uint8_t toll[16];
+    begin_season(below_most(0));
+    check_bounds("nothing to add", 0, 9, below_most(0), below_most(0));
+    add_amount(small(5));
+    check_bounds("all of it is toll", 5, 9, below_most(0), below_most(0));
+    check_no_bounds("1 arrives", ask(TOKEN, small(4), small(9)), TOKEN_VAULT_REFUSAL_ARITHMETIC_OVERFLOW);
+    begin_season(below_most(10));
+    add_amount(small(8));
+    add_amount(small(8));
+    check_bounds("a sum of 2^127 - 1", 3, 6, below_most(6), below_most(0));
+    check_no_bounds("at the least toll alone", ask(TOKEN, small(2), small(6)), TOKEN_VAULT_REFUSAL_ARITHMETIC_OVERFLOW);
+    check_no_bounds("at both tolls", ask(TOKEN, small(1), small(2)), TOKEN_VAULT_REFUSAL_ARITHMETIC_OVERFLOW);
+    begin_season(small(100));
+    add_amount(below_most(100));
+    check_bounds("an amount up to 2^127 - 1", 0, 100, below_most(100), below_most(0));
+    add_amount(small(1));
+    check_no_bounds("one past it", ask(TOKEN, small(0), small(100)), TOKEN_VAULT_REFUSAL_ARITHMETIC_OVERFLOW);
+    begin_season(small(100));
+    add_amount(below_most(0));
+    check("tolls of 2^127 - 2 and 2^127 - 1", ask(TOKEN, below_most(1), below_most(0)), TOKEN_VAULT_DONE);
+    check_holding("nothing arrives", least, small(100));
+    check_holding("1 arrives", greatest, small(101));
+    check_no_bounds("2^64 above 1", ask(TOKEN, large, small(1)), TOKEN_VAULT_REFUSAL_INVALID_TOLL_BOUNDS);
+    check("101 to 2^64", ask(TOKEN, small(101), large), TOKEN_VAULT_DONE);
+    check_holding("at 101", greatest, below_most(1));
+    token_vault_put_amount(toll, below_most(0));
+    check("one toll lent as both", token_vault_toll_bounds(season, sizeof season, TOKEN, list, list_length, toll, toll, least, greatest),
+          TOKEN_VAULT_DONE);
+    check_holding("nothing arrives", least, small(100));
+    check_holding("nothing arrives", greatest, small(100));
+}
+
+static void toll_bounds_that_are_refused(void) {
+    static const size_t lengths[] = {1, 15, 17, 255, 257, 272};
+    static const int64_t tolls[][2] = {{-1, 6}, {-6, -2}, {-1, -1}, {0, -1}, {6, 2}, {1, 0}, {INT64_MIN, INT64_MAX}};
+    static const int64_t not_above_0[] = {0, -1, INT64_MIN};
+    size_t i;
+    begin_season(small(100));
+    memset(list, 1, sizeof list);
+    for (i = 0; i < sizeof lengths / sizeof *lengths; i++) {
+        list_length = lengths[i];
+        check_no_bounds("length of the list", ask(TOKEN, small(2), small(6)), TOKEN_VAULT_REFUSAL_INVALID_TOLL_BOUNDS);
+    }
+    begin_season(small(100));
+    add_example();
+    for (i = 0; i < sizeof tolls / sizeof *tolls; i++) {
+        check_no_bounds("tolls", ask(TOKEN, small(tolls[i][0]), small(tolls[i][1])), TOKEN_VAULT_REFUSAL_INVALID_TOLL_BOUNDS);
+    }
+    for (i = 0; i < sizeof not_above_0 / sizeof *not_above_0; i++) {
+        begin_season(small(100));
+        add_example();
+        add_amount(small(not_above_0[i]));
+        check_no_bounds("amount", ask(TOKEN, small(2), small(6)), TOKEN_VAULT_REFUSAL_INVALID_AMOUNT);
+    }
+    season[95] = 1;
+    check_no_bounds("damaged image", ask(TOKEN, small(2), small(6)), TOKEN_VAULT_REFUSAL_INVALID_IMAGE);
+}
+
+/* Of the refusals of one call the first is answered: 30, 46, 4, 7. What is wrong is put right one by one. */
+static void toll_bounds_in_order(void) {
+    begin_season(small(1));
+    add_amount(below_most(0));
+    add_amount(below_most(0));
+    add_amount(small(0));
+    season[95] = 1;
+    check_no_bounds("30 before 46", ask(255, small(6), small(-2)), TOKEN_VAULT_REFUSAL_INVALID_IMAGE);
+    season[95] = 0;
+    check_no_bounds("46 by the token", ask(255, small(0), small(0)), TOKEN_VAULT_REFUSAL_INVALID_TOLL_BOUNDS);
+    check_no_bounds("46 by the tolls", ask(TOKEN, small(6), small(-2)), TOKEN_VAULT_REFUSAL_INVALID_TOLL_BOUNDS);
+    list_length++;
+    check_no_bounds("46 by the length", ask(TOKEN, small(0), small(0)), TOKEN_VAULT_REFUSAL_INVALID_TOLL_BOUNDS);
+    list_length--;
+    check_no_bounds("4 before 7", ask(TOKEN, small(0), small(0)), TOKEN_VAULT_REFUSAL_INVALID_AMOUNT);
+    list_length -= 16;
+    check_no_bounds("7", ask(TOKEN, small(0), small(0)), TOKEN_VAULT_REFUSAL_ARITHMETIC_OVERFLOW);
+    list_length -= 16;
+    check_bounds("none", 1, 1, below_most(0), below_most(0));
+}
+
+static void toll_bounds_of_tokens(void) {
+    unsigned token;
+    begin_season(small(100));
+    add_example();
+    for (token = 0; token < 256; token++) {
+        if (token == TOKEN || token == LAST_TOKEN) continue;
+        check_no_bounds("token", ask((uint8_t)token, small(2), small(6)), TOKEN_VAULT_REFUSAL_INVALID_TOLL_BOUNDS);
+    }
+    check("last token", ask(LAST_TOKEN, small(2), small(6)), TOKEN_VAULT_DONE);
+    check_holding("last token", least, small(11));
+    check_holding("last token", greatest, small(18));
+    put_token(FROZEN, TOKEN_VAULT_TOKEN_MOVING, small(50));
+    check("token that moves again", ask(FROZEN, small(2), small(6)), TOKEN_VAULT_DONE);
+    check_holding("token that moves again", least, small(54));
+}
+
+/* Moves an amount of token 48 from an address that holds as much to the vault. */
+static void move_in(uint8_t from, int64_t amount) {
+    token_vault_put_amount(season + token_vault_holding_place(TOKEN, from), small(amount));
+    token_vault_record_begin(record, TOKEN_VAULT_OP_OUTSIDE_MOVE);
+    token_vault_record_set_token(record, TOKEN);
+    token_vault_record_set_caller(record, from);
+    token_vault_record_set_other(record, TOKEN_VAULT_VAULT_ADDRESS);
+    token_vault_record_set_amount(record, small(amount));
+    check("outside_move",
+          token_vault_call_without_journal(season, sizeof season, record, sizeof record, events, sizeof events, value, &count),
+          TOKEN_VAULT_DONE);
+}
+
+/* At each toll the token itself leaves the vault the holding at that toll, from the least to the greatest of the bounds. */
+static void toll_bounds_and_the_token(void) {
+    const uint8_t *held = season + token_vault_holding_place(TOKEN, TOKEN_VAULT_VAULT_ADDRESS);
+    int64_t toll, low = 0, high = 0, left = 0;
+    begin_season(small(100));
+    add_example();
+    check("bounds", ask(TOKEN, small(0), small(11)), TOKEN_VAULT_DONE);
+    check("least", (uint64_t)token_vault_amount_to_int64(token_vault_get_amount(least), &low), 1);
+    check("greatest", (uint64_t)token_vault_amount_to_int64(token_vault_get_amount(greatest), &high), 1);
+    for (toll = 0; toll <= 11; toll++) {
+        begin_season(small(100));
+        add_example();
+        check("one toll", ask(TOKEN, small(toll), small(toll)), TOKEN_VAULT_DONE);
+        token_vault_put_amount(season + token_vault_token_place(TOKEN) + TOKEN_VAULT_TOKEN_AT_TOLL, small(toll));
+        move_in(0, 10);
+        move_in(OWNER, 5);
+        move_in(63, 1);
+        check("least is left", memcmp(held, least, sizeof least) == 0, 1);
+        check("greatest is left", memcmp(held, greatest, sizeof greatest) == 0, 1);
+        check("left", (uint64_t)token_vault_amount_to_int64(token_vault_get_amount(held), &left), 1);
+        check("between the two", low <= left && left <= high, 1);
+    }
+}
+
 static void fields(void) {
     token_vault_record_begin(record, TOKEN_VAULT_OP_APPROVE_TOKEN);
     token_vault_record_set_caller(record, 7);
@@ -388,7 +631,7 @@ static void amounts(void) {
 }
 
 static int is_refusal(uint32_t number) {
-    return (number >= 1 && number <= 23) || (number >= 30 && number <= 37);
+    return (number >= 1 && number <= 23) || (number >= 30 && number <= 37) || number == 46;
 }
 
 static void refusals(void) {
@@ -414,6 +657,12 @@ int main(void) {
     trial_records();
     trial_records_in_parts();
     trial_records_that_are_refused();
+    toll_bounds();
+    toll_bounds_at_the_ends();
+    toll_bounds_that_are_refused();
+    toll_bounds_in_order();
+    toll_bounds_of_tokens();
+    toll_bounds_and_the_token();
     fields();
     amounts();
     refusals();

@@ -3,12 +3,13 @@
  * Every function answers for any bytes of any length: nothing is asked of what stands in a buffer or of how long it is, and no call traps or
  * keeps anything between calls. Each buffer is a pointer and its length in bytes; the caller owns it before, during and after the call.
  * What the compiler cannot see and the caller must keep to: each pointer is good for its length (a length of 0 allows any pointer that is not
- * null); a buffer that is not const overlaps no other of the same call, value, event_count and reached being three more of them; and during the
- * call no other thread touches such a buffer or writes to one that is const. A call needs less than 64 KiB of stack. The library is for x86-64.
+ * null); a buffer that is not const overlaps no other of the same call, value, event_count, reached and the two holdings being five more of
+ * them; and during the call no other thread touches such a buffer or writes to one that is const. A call needs less than 64 KiB of stack. The
+ * library is for x86-64.
  *
  * Buffers: the image (36,832 bytes when good), the journal (24 times 1 + k bytes, k from 1 to 2,000; all zero is a closed one), the record
- * (448 bytes), the events (896 bytes), the trial records (448 bytes each, of any contents). A buffer of another length or with other contents is
- * refused by its number and left as it was.
+ * (448 bytes), the events (896 bytes), the trial records (448 bytes each, of any contents), the amounts of toll bounds (16 bytes each, at most
+ * sixteen). A buffer of another length or with other contents is refused by its number and left as it was.
  *
  * The result is TOKEN_VAULT_DONE or one of the refusals below; token_vault_refusal_name and token_vault_refusal_sentence say what it means.
  * docs/FORMATS.md has every format and rule. */
@@ -18,7 +19,7 @@
 #include <stddef.h>
 #include <stdint.h>
 
-#define TOKEN_VAULT_VERSION "0.3.0"
+#define TOKEN_VAULT_VERSION "0.4.0"
 
 /* Lengths in bytes, and how many there are at most. */
 #define TOKEN_VAULT_IMAGE_LENGTH 36832
@@ -108,6 +109,7 @@
 #define TOKEN_VAULT_REFUSAL_NO_TRANSACTION 35        /* No transaction is open. */
 #define TOKEN_VAULT_REFUSAL_TRANSACTION_OPEN 36      /* A transaction is open already. */
 #define TOKEN_VAULT_REFUSAL_NOTHING_TO_UNDO 37       /* The transaction has no call to undo. */
+#define TOKEN_VAULT_REFUSAL_INVALID_TOLL_BOUNDS 46   /* The amounts, the tolls or the token that toll bounds are asked for are not allowed. */
 
 /* Kinds of event. */
 #define TOKEN_VAULT_EVENT_INITIALIZED 1
@@ -250,6 +252,17 @@ uint32_t token_vault_undo(uint8_t *image, size_t image_length, uint8_t *journal,
  * written for every answer, and is start on 32 and where there is no record. */
 uint32_t token_vault_trial_records(uint64_t start, uint64_t first, uint8_t *records, size_t records_length, uint64_t *reached);
 
+/* What address 1 will hold of a token, at least and at most, once these amounts are moved to it at a toll from least_toll to greatest_toll
+ * (docs/FORMATS.md, "Toll bounds"). Of each amount there arrives what is left after the toll, never below 0: the least holding is that at the
+ * greatest toll, the greatest that at the least toll. The amounts stand one after another; each of them, toll and holding has 16 bytes, two's
+ * complement, least significant byte first. The image is only read, and the toll in it plays no part. The refusals, in this order: 30; 46 where
+ * amounts_length is no multiple of 16 or above 256, a toll is below 0, the least is above the greatest, or the token is above 63, absent or
+ * frozen; 4 where an amount is not above 0; 7 where the greatest holding would pass 2^127 - 1. Both holdings are written for every answer, and
+ * are 0 on a refusal. */
+uint32_t token_vault_toll_bounds(const uint8_t *image, size_t image_length, uint8_t token, const uint8_t *amounts, size_t amounts_length,
+                                 const uint8_t least_toll[16], const uint8_t greatest_toll[16], uint8_t least_holding[16],
+                                 uint8_t greatest_holding[16]);
+
 #ifdef __cplusplus
 }
 #endif
@@ -288,6 +301,7 @@ static inline const char *token_vault_refusal_name(uint32_t number) {
     case TOKEN_VAULT_REFUSAL_NO_TRANSACTION: return "NoTransaction";
     case TOKEN_VAULT_REFUSAL_TRANSACTION_OPEN: return "TransactionOpen";
     case TOKEN_VAULT_REFUSAL_NOTHING_TO_UNDO: return "NothingToUndo";
+    case TOKEN_VAULT_REFUSAL_INVALID_TOLL_BOUNDS: return "InvalidTollBounds";
     default: return NULL;
     }
 }
@@ -357,6 +371,8 @@ static inline const char *token_vault_refusal_sentence(uint32_t number) {
         return "A transaction is open already.";
     case TOKEN_VAULT_REFUSAL_NOTHING_TO_UNDO:
         return "The transaction has no call to undo.";
+    case TOKEN_VAULT_REFUSAL_INVALID_TOLL_BOUNDS:
+        return "The amounts, the tolls or the token that toll bounds are asked for are not allowed.";
     default: return NULL;
     }
 }

@@ -3,7 +3,8 @@
 //! An [`Image`] is all that a vault keeps. A [`Record`] is one call on it, with the addresses that signed it. A call is
 //! done, with a value and [`Event`]s, or refused with a [`Refusal`] and then nothing has changed. A preview gives the same
 //! and never changes anything. In the transaction of a [`Journal`] calls can be undone. [`trial_records`] makes a load of
-//! records that every house makes alike. Formats and rules are in docs/FORMATS.md of the repository.
+//! records that every house makes alike, and [`Image::toll_bounds`] says what the vault will hold while a toll is known
+//! only within bounds. Formats and rules are in docs/FORMATS.md of the repository.
 //!
 //! ```
 //! use token_vault::{Image, Journal, Record, Refusal};
@@ -54,6 +55,7 @@ pub mod layout;
 mod operation;
 mod record;
 mod refusal;
+mod tolls;
 mod trial;
 mod view;
 mod words;
@@ -67,7 +69,7 @@ pub use refusal::Refusal;
 pub use trial::{trial_records, TrialRecords};
 pub use view::{Handover, ImageView, Migration, Snapshot, Token, TokenState, TrackedKey};
 
-/// An account or a token: 0 to 63; above that the library answers 32.
+/// An account or a token: 0 to 63; above that the library answers 32, and to toll bounds 46.
 pub type Address = u8;
 /// The address that is none.
 pub const ZERO_ADDRESS: Address = 0;

@@ -77,11 +77,13 @@ pub enum Refusal {
     TransactionOpen = 36,
     /// The transaction has no call to undo.
     NothingToUndo = 37,
+    /// The amounts, the tolls or the token that toll bounds are asked for are not allowed.
+    InvalidTollBounds = 46,
 }
 
 impl Refusal {
     /// All refusals, by number.
-    pub const ALL: [Refusal; 31] = [
+    pub const ALL: [Refusal; 32] = [
         Refusal::NotInitialized,
         Refusal::AlreadyInitialized,
         Refusal::NotAuthorized,
@@ -113,6 +115,7 @@ impl Refusal {
         Refusal::NoTransaction,
         Refusal::TransactionOpen,
         Refusal::NothingToUndo,
+        Refusal::InvalidTollBounds,
     ];
 
     /// The number that the library answers.
@@ -154,6 +157,7 @@ impl Refusal {
             Refusal::NoTransaction => "NoTransaction",
             Refusal::TransactionOpen => "TransactionOpen",
             Refusal::NothingToUndo => "NothingToUndo",
+            Refusal::InvalidTollBounds => "InvalidTollBounds",
         }
     }
 
@@ -195,6 +199,7 @@ impl Refusal {
             Refusal::NoTransaction => "No transaction is open.",
             Refusal::TransactionOpen => "A transaction is open already.",
             Refusal::NothingToUndo => "The transaction has no call to undo.",
+            Refusal::InvalidTollBounds => "The amounts, the tolls or the token that toll bounds are asked for are not allowed.",
         }
     }
 

@@ -187,18 +187,20 @@ fn refusals_of_the_header() {
 
 /// A parameter of the header as the crate declares it.
 fn declared(parameter: &str) -> String {
-    if let Some(name) = parameter.strip_prefix("uint8_t ").and_then(|rest| rest.strip_suffix("[16]")) {
-        return format!("{name}: *mut [u8; 16]");
-    }
+    // What stands before the name, and what behind it.
     let types = [
-        ("const uint8_t *", "*const u8"),
-        ("uint8_t *", "*mut u8"),
-        ("uint32_t *", "*mut u32"),
-        ("uint64_t *", "*mut u64"),
-        ("uint64_t ", "u64"),
-        ("size_t ", "usize"),
+        ("const uint8_t ", "[16]", "*const [u8; 16]"),
+        ("uint8_t ", "[16]", "*mut [u8; 16]"),
+        ("const uint8_t *", "", "*const u8"),
+        ("uint8_t *", "", "*mut u8"),
+        ("uint32_t *", "", "*mut u32"),
+        ("uint64_t *", "", "*mut u64"),
+        ("uint8_t ", "", "u8"),
+        ("uint64_t ", "", "u64"),
+        ("size_t ", "", "usize"),
     ];
-    let found = types.iter().find_map(|(in_c, in_rust)| Some(format!("{}: {in_rust}", parameter.strip_prefix(in_c)?)));
+    let name = |before: &str, behind: &str| parameter.strip_prefix(before)?.strip_suffix(behind);
+    let found = types.iter().find_map(|(before, behind, in_rust)| Some(format!("{}: {in_rust}", name(before, behind)?)));
     found.unwrap_or_else(|| panic!("a parameter of another type: {parameter}"))
 }
 
@@ -213,14 +215,21 @@ fn functions(text: &str, mark: &str) -> BTreeMap<String, Vec<String>> {
 fn functions_of_the_header() {
     let in_c = functions(&header(), "\nuint32_t token_vault_");
     let in_rust = functions(&read("src/exports.rs"), "pub fn token_vault_");
-    assert_eq!(in_c.len(), 8);
+    assert_eq!(in_c.len(), 9);
     let in_c = in_c.into_iter().map(|(name, parameters)| (name, parameters.iter().map(|p| declared(p)).collect()));
     assert_eq!(in_c.collect::<BTreeMap<_, _>>(), in_rust);
 }
 
+/// A text in which each link, `[words](place)`, is its words.
+fn without_links(text: &str) -> String {
+    let parts = text.split("](").enumerate();
+    let words = parts.map(|(i, part)| if i > 0 { part.split_once(')').expect("the end of a link").1 } else { part });
+    words.collect::<String>().replace('[', "")
+}
+
 #[test]
 fn rows_of_the_formats() {
-    let formats = formats();
+    let formats = without_links(&formats());
     let has = |row: String| assert!(formats.lines().any(|line| line.starts_with(&row)), "FORMATS.md has no row: {row}");
     for refusal in Refusal::ALL {
         has(format!("| {} | `{}` | {} |", refusal.number(), refusal.name(), refusal.sentence()));

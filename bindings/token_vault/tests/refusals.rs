@@ -113,10 +113,15 @@ fn of_the_journal() {
 }
 
 #[test]
+fn of_toll_bounds() {
+    reaches(vault().toll_bounds(TOKEN, &[1], -1..=1).unwrap_err(), 46, "InvalidTollBounds");
+}
+
+#[test]
 fn numbers_that_are_none() {
-    for number in [0, 24, 29, 38, u32::MAX] {
+    for number in [0, 24, 29, 38, 45, 47, u32::MAX] {
         assert_eq!(Refusal::from_number(number), None);
     }
     assert_eq!(Refusal::from_name("Done"), None);
-    assert_eq!(Refusal::ALL.map(Refusal::number)[..], (1..=23).chain(30..=37).collect::<Vec<u32>>());
+    assert_eq!(Refusal::ALL.map(Refusal::number)[..], (1..=23).chain(30..=37).chain([46]).collect::<Vec<u32>>());
 }

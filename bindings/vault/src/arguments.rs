@@ -36,7 +36,7 @@ impl Arguments {
         while let Some(argument) = rest.next() {
             match argument.strip_prefix("--") {
                 Some(option) => split.options.push(one_option(option, &mut rest)?),
-                None if argument.len() > 1 && argument.starts_with('-') => return Err(format!("there is no option {argument}")),
+                None if is_short_option(argument) => return Err(format!("there is no option {argument}")),
                 None => split.words.push(argument.to_string()),
             }
         }
@@ -45,10 +45,15 @@ impl Arguments {
 
     /// The words, each of which has a name in the usage; those after the first `needed` may be missing.
     pub fn words(&self, command: &str, names: &[&str], needed: usize) -> Result<Vec<String>, String> {
-        if let Some(word) = self.words.get(names.len()) {
-            return Err(format!("{command}: '{word}' is one word too many"));
+        match self.words.get(names.len()) {
+            Some(word) => Err(format!("{command}: '{word}' is one word too many")),
+            None => self.at_least(command, &names[..needed]),
         }
-        match names[..needed].get(self.words.len()) {
+    }
+
+    /// The words, one for each name and any number behind these.
+    pub fn at_least(&self, command: &str, names: &[&str]) -> Result<Vec<String>, String> {
+        match names.get(self.words.len()) {
             Some(name) => Err(format!("{command} needs {name}")),
             None => Ok(self.words.clone()),
         }
@@ -91,6 +96,11 @@ impl Arguments {
             None => Ok(()),
         }
     }
+}
+
+/// A dash and more, unless a number below 0.
+fn is_short_option(argument: &str) -> bool {
+    argument.strip_prefix('-').is_some_and(|rest| !rest.is_empty() && !rest.starts_with(|c: char| c.is_ascii_digit()))
 }
 
 /// `--name VALUE`, `--name=VALUE` or a switch. A value may begin with one dash, as an amount below 0 does.

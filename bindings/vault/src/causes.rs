@@ -70,6 +70,18 @@ pub fn of_transaction(transaction: Transaction) -> Vec<Cause> {
 
 const NO_TRANSACTION: Cause = cause(Refusal::NoTransaction, "no transaction is open");
 
+/// All causes of toll bounds, which read no journal.
+pub fn of_toll_bounds() -> Vec<Cause> {
+    let own = [
+        cause(Refusal::InvalidTollBounds, "there are more than 16 amounts, or they have not 16 bytes each"),
+        cause(Refusal::InvalidTollBounds, "a toll is below 0, or the least toll is above the greatest"),
+        cause(Refusal::InvalidTollBounds, "there is no such token, or it is frozen"),
+        cause(Refusal::InvalidAmount, "an amount is not above 0"),
+        cause(Refusal::ArithmeticOverflow, "the vault's holding plus what arrives at the least toll passes 2^127 - 1"),
+    ];
+    [&STATE[..1], &own].concat()
+}
+
 fn own(operation: Operation) -> Vec<Cause> {
     match operation {
         Operation::Initialize | Operation::ApproveToken => setup(operation),
@@ -256,7 +268,7 @@ fn outside(operation: Operation) -> Vec<Cause> {
 /// The causes stand in the order of docs/FORMATS.md.
 #[cfg(test)]
 mod tests {
-    use super::own;
+    use super::{of_toll_bounds, own};
     use token_vault::Operation;
 
     const PAGE: &str = include_str!("../../../docs/FORMATS.md");
@@ -343,5 +355,16 @@ mod tests {
             let told: Vec<u32> = own(operation).iter().map(|cause| cause.refusal.number()).collect();
             assert_eq!(told, page(operation), "{operation}");
         }
+    }
+
+    /// The page lists them as `1. 30: ...`, one line for each number.
+    #[test]
+    fn causes_of_toll_bounds_stand_in_the_order_of_the_page() {
+        let section = PAGE.split("\n## ").find_map(|section| section.strip_prefix("Toll bounds\n")).expect("a section");
+        let number = |line: &str| line.split_once(". ")?.1.split_once(": ")?.0.parse().ok();
+        let page: Vec<u32> = section.lines().filter_map(number).collect();
+        let mut told: Vec<u32> = of_toll_bounds().iter().map(|cause| cause.refusal.number()).collect();
+        told.dedup();
+        assert_eq!(told, page);
     }
 }

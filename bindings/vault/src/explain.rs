@@ -1,10 +1,11 @@
 //! `vault explain`: refusals and operations in words.
 use crate::arguments::Arguments;
 use crate::calls::{value_of, Transaction, Value};
-use crate::causes::{of_operation, of_transaction, Cause};
+use crate::causes::{of_operation, of_toll_bounds, of_transaction, Cause};
 use crate::failure::{End, Failure};
 use crate::fields::{names_in_words, read_by, Field, Read};
 use crate::table::{Side, Table};
+use crate::toll_bounds;
 use std::io::Write;
 use token_vault::{Operation, Refusal};
 
@@ -32,6 +33,9 @@ fn explained(word: &str) -> Option<Vec<String>> {
     if let Some(operation) = Operation::from_name(word) {
         return Some(operation_in_words(operation));
     }
+    if word == toll_bounds::NAME {
+        return Some(toll_bounds_in_words());
+    }
     Transaction::from_name(word).map(transaction_in_words)
 }
 
@@ -47,7 +51,7 @@ fn all_refusals() -> Vec<String> {
 fn all_causes() -> Vec<(&'static str, Vec<Cause>)> {
     let operations = Operation::ALL.into_iter().map(|operation| (operation.name(), of_operation(operation)));
     let transactions = Transaction::ALL.into_iter().map(|transaction| (transaction.name(), of_transaction(transaction)));
-    operations.chain(transactions).collect()
+    operations.chain(transactions).chain([(toll_bounds::NAME, of_toll_bounds())]).collect()
 }
 
 fn of_refusal(refusal: Refusal) -> Vec<String> {
@@ -99,6 +103,15 @@ fn transaction_in_words(transaction: Transaction) -> Vec<String> {
     };
     let lines = vec![format!("{}: {does}", transaction.name()), options.to_string(), "answers: done".to_string()];
     [lines, causes_in_words(&of_transaction(transaction))].concat()
+}
+
+fn toll_bounds_in_words() -> Vec<String> {
+    let lines = [
+        "toll-bounds: what the vault will hold of a token once amounts are moved in, at least and at most",
+        "options: none; the words are IMAGE TOKEN LEAST GREATEST [AMOUNT ...], with a toll from LEAST to GREATEST",
+        "answers: least AMOUNT and greatest AMOUNT",
+    ];
+    [lines.map(str::to_string).to_vec(), causes_in_words(&of_toll_bounds())].concat()
 }
 
 fn causes_in_words(causes: &[Cause]) -> Vec<String> {

@@ -3,6 +3,7 @@ use crate::calls::Transaction;
 use crate::explain::what_it_does;
 use crate::fields::{read_by, Field, Read};
 use crate::table::Table;
+use crate::toll_bounds;
 use token_vault::Operation;
 
 pub const ALL: &str = "\
@@ -11,6 +12,7 @@ vault keeps a token vault in a file, its image, and makes calls on it.
   vault new IMAGE --token TOKEN ...   makes an image
   vault call IMAGE OPERATION ...      makes one call
   vault preview IMAGE OPERATION ...   shows what a call would answer
+  vault toll-bounds IMAGE TOKEN ...   shows what will be held, at least and at most
   vault run IMAGE FILE                makes the calls of a file, one a line
   vault show IMAGE                    shows what an image holds
   vault explain [WORD]                explains a refusal or an operation
@@ -74,6 +76,20 @@ gives the previewed answer, while a transaction is open too, unless the journal 
 (31) or has no room for the call (34).
 ";
 
+const TOLL_BOUNDS: &str = "\
+vault toll-bounds IMAGE TOKEN LEAST GREATEST [AMOUNT ...]
+
+For amounts that are still to be moved into the vault, up to 16, and a toll from LEAST to
+GREATEST: prints what the vault will hold of the token then, at least and at most. Of each
+amount the vault gets what is left after the toll, never below 0. The toll that the token
+has in the image plays no part, and nothing is written.
+
+  vault toll-bounds my.image 48 2 6 10 5 1
+
+A refusal is printed as by vault call, with the same exit status; vault explain toll-bounds
+lists them.
+";
+
 const SHOW: &str = "\
 vault show IMAGE [--journal FILE]
 
@@ -95,10 +111,10 @@ file has a begin.
 ";
 
 const EXPLAIN: &str = "\
-vault explain [NUMBER | NAME | OPERATION]
+vault explain [NUMBER | NAME | OPERATION | toll-bounds]
 
-Explains a refusal, by its number or name, or an operation: its options and what it is
-refused for, in the order in which it is tested. With no word: all refusals.
+Explains a refusal, by its number or name, an operation, or toll-bounds: its options and
+what it is refused for, in the order in which it is tested. With no word: all refusals.
 ";
 
 const VECTORS: &str = "\
@@ -118,6 +134,7 @@ pub fn of(command: &str) -> String {
         "new" => NEW.to_string(),
         "call" => format!("{CALL}\nOperations and their options:\n\n{}", operations()),
         "preview" => PREVIEW.to_string(),
+        toll_bounds::NAME => TOLL_BOUNDS.to_string(),
         "show" => SHOW.to_string(),
         "run" => RUN.to_string(),
         "explain" => EXPLAIN.to_string(),

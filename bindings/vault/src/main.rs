@@ -1,4 +1,4 @@
-//! The token vault on the command line: images, calls, previews, transactions and vectors. `vault --help` says more.
+//! The token vault on the command line: images, calls, previews, transactions, toll bounds and vectors. `vault --help` says more.
 #![forbid(unsafe_code)]
 
 mod arguments;
@@ -20,6 +20,7 @@ mod run;
 mod show;
 mod table;
 mod times;
+mod toll_bounds;
 mod vectors;
 
 use arguments::Arguments;
@@ -29,10 +30,11 @@ use std::process::ExitCode;
 
 type Command = fn(Arguments, &mut dyn Write) -> Result<End, Failure>;
 
-const COMMANDS: [(&str, Command); 7] = [
+const COMMANDS: [(&str, Command); 8] = [
     ("new", new::command),
     ("call", call::command),
     ("preview", preview::command),
+    (toll_bounds::NAME, toll_bounds::command),
     ("show", show::command),
     ("run", run::command),
     ("explain", explain::command),
