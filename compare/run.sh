@@ -6,21 +6,22 @@ usage() {
     cat <<'END'
 compare/run.sh [--calls N] [--seed S] [--jobs J] [--partial]
     the whole comparison: the vectors made again, the calls of the benchmark, planted mistakes, the lines of the program, trial records,
-    then at least N calls (2000000) from the seed S (1) on J threads (2), one operation in four previewed first; --partial: a pair of
-    operation and answer, of a call or a preview, that was not reached is no failure
+    toll bounds with the moves that they speak of, then at least N calls (2000000) from the seed S (1) on J threads (2), one operation in
+    four previewed first; --partial: a pair of operation and answer, of a call or a preview, that was not reached is no failure
 compare/run.sh --scenario N [--seed S]
     one scenario of the run alone
 compare/run.sh --vectors FOLDER [--seed S]
-    writes the vectors of docs/VECTORS.md to a folder
+    writes the vectors of docs/VECTORS.md to a folder: stdin, stdout and the lines of toll bounds
 compare/run.sh --program [--seed S] [--partial]
     the program's lines alone, on the streams of the seed, then wrong programs that have to be found
 compare/run.sh --self-test [--seed S] [--calls N]
-    planted mistakes alone; each has to be found within N calls (400000)
+    planted mistakes alone, those in trial records and toll bounds too; each of a call has to be found within N calls (400000)
 compare/run.sh --load START N
     N trial records (1 to 4294967295) from the starting number START (0 to 18446744073709551615), made by the library, run through the
     vault and the contract's Rust and compared, with the calls a second of both (docs/PERFORMANCE.md)
 compare/run.sh --bench
-    times the vault, its previews too, beside the contract's Rust, and the making of trial records (docs/PERFORMANCE.md)
+    times the vault, its previews too, beside the contract's Rust, and the making of trial records and of toll bounds
+    (docs/PERFORMANCE.md)
 compare/run.sh --bench-cells [--seed S]
     times the two ways to find the changed cells of a call, by words and by bytes (docs/PERFORMANCE.md)
 compare/run.sh --help
@@ -131,6 +132,7 @@ vectors=$CARGO_TARGET_DIR/vectors
 "$driver" --vectors "$vectors"
 cmp "$vectors/stdin" crates/token_vault_vectors/stdin
 cmp "$vectors/stdout" crates/token_vault_vectors/stdout
+cmp "$vectors/toll_bounds.txt" compare/vectors/toll_bounds.txt
 "$bench" --quick
 "$driver" --self-test --calls 400000
 "$driver" --program --seed 1

@@ -1,9 +1,11 @@
-//! What is timed without a call: one copy of an image, and the making of trial records.
+//! What is timed without a call: one copy of an image, the making of trial records, and toll bounds.
+use crate::cases::TOKEN;
 use crate::{CASE, ROUND};
+use model::tolls::Asked;
 use model::{record, trial};
 use std::hint::black_box;
 use std::time::Instant;
-use token_vault::exports::trial_records;
+use token_vault::exports::{toll_bounds, trial_records};
 
 /// Trial records that are made at once.
 const BLOCK: usize = 1_024;
@@ -47,11 +49,39 @@ fn record_times() -> [f64; 2] {
     times.map(|time| time / BLOCK as f64)
 }
 
-pub fn print(image: &[u8]) {
+/// For one request with amounts of 10 and tolls of 2 to 6, by the library and by the plain function of the model, which test the same.
+fn bounds_times(image: &[u8], amounts: usize) -> [f64; 2] {
+    let amounts = 10i128.to_le_bytes().repeat(amounts);
+    let tolls = [2, 6];
+    let [least, greatest] = tolls.map(i128::to_le_bytes);
+    let asked = Asked { image, token: TOKEN, amounts: &amounts, tolls };
+    let (mut holdings, mut plain) = ([[0; 16]; 2], Err(0));
+    let mut by_library = || {
+        let [lower, upper] = &mut holdings;
+        assert_eq!(toll_bounds(black_box(image), TOKEN, black_box(&amounts), &least, &greatest, lower, upper), 0);
+    };
+    let mut by_function = || plain = black_box(asked).answer();
+    let times = best([&mut by_library, &mut by_function]);
+    assert_eq!(plain, Ok(holdings.map(i128::from_le_bytes)), "toll bounds of the library and of the model");
+    times
+}
+
+fn print_bounds(images: [(&str, &[u8]); 2]) {
+    for (kind, image) in images {
+        for (count, amounts) in [("no amount", 0), ("16 amounts", 16)] {
+            for (side, us) in ["vault", "plain Rust"].iter().zip(bounds_times(image, amounts)) {
+                println!("  {:52}{us:8.2}{:9.0} requests/s", format!("toll bounds, {kind}, {count}: {side}"), 1e6 / us);
+            }
+        }
+    }
+}
+
+pub fn print(images: [(&str, &[u8]); 2]) {
     println!("no call");
-    println!("  {:52}{:8.2}", "one copy of an image, by the C library's memcpy", copy_time(image));
+    println!("  {:52}{:8.2}", "one copy of an image, by the C library's memcpy", copy_time(images[1].1));
     let names = ["a trial record, by the vault, 1,024 at once", "a trial record, by a plain Rust function, as many"];
     for (name, us) in names.iter().zip(record_times()) {
         println!("  {name:52}{us:8.3}{:10.0} records/s", 1e6 / us);
     }
+    print_bounds(images);
 }

@@ -9,7 +9,7 @@ use token_vault::layout::{EVENTS_LENGTH, JOURNAL_LENGTH_MAX};
 const VAULT: u8 = 1;
 const OWNER: u8 = 2;
 const PAYEE: u8 = 4;
-const TOKEN: u8 = 48;
+pub const TOKEN: u8 = 48;
 const MUCH: i128 = 1 << 100;
 /// Who pays and is paid in batches: the owner and fifteen others.
 const HOLDERS: std::ops::Range<u8> = OWNER..OWNER + 16;

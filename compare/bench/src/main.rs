@@ -1,5 +1,5 @@
 //! Calls a second of the vault beside the contract's Rust: the sides in turn, on the same calls, in one run. And how long the
-//! vault takes to find the changed cells of a call and to make trial records.
+//! vault takes to find the changed cells of a call, to make trial records and to give toll bounds.
 mod alone;
 mod cases;
 mod cells;
@@ -47,7 +47,7 @@ fn main() {
         _ => {
             head();
             run(images, true);
-            alone::print(&full);
+            alone::print(images);
             println!("the best of all rounds of {} ms, the sides in turn, for {} ms a case", ROUND.as_millis(), CASE.as_millis());
         }
     }

@@ -27,13 +27,12 @@ pub fn call_fenced(vault: &mut Vault, call: &Call, with_journal: bool) -> (Answe
         Call::Operation { record, events } | Call::Preview { record, events } => {
             let mut buffer = Fenced::of(events);
             let lent = Fenced::of(record);
-            let bytes = &lent.0[FENCE..lent.0.len() - FENCE];
             let given = with_journal.then_some(journal.list());
             let numbers = match call {
-                Call::Preview { .. } => preview(image.list(), bytes, buffer.list()),
-                _ => operation(image.list(), given, bytes, buffer.list()),
+                Call::Preview { .. } => preview(image.list(), lent.bytes(), buffer.list()),
+                _ => operation(image.list(), given, lent.bytes(), buffer.list()),
             };
-            let whole = buffer.whole() && lent.0 == Fenced::of(record).0;
+            let whole = buffer.whole() && lent.is_still(record);
             (numbers.answer(buffer.list().to_vec()), whole)
         }
         _ => (plain(transaction(image.list(), journal.list(), call)), true),
@@ -58,8 +57,17 @@ impl Fenced {
         &mut self.0[FENCE..end]
     }
 
+    pub fn bytes(&self) -> &[u8] {
+        &self.0[FENCE..self.0.len() - FENCE]
+    }
+
     pub fn whole(&self) -> bool {
         self.0[..FENCE] == [0x5a; FENCE] && self.0[self.0.len() - FENCE..] == [0xc3; FENCE]
+    }
+
+    /// Whether fences and bytes are as they were made of this list.
+    pub fn is_still(&self, list: &[u8]) -> bool {
+        self.whole() && self.bytes() == list
     }
 }
 

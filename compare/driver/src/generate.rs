@@ -9,7 +9,7 @@ const MOST_DEPOSIT: i128 = 1_000_000_000_000_000_000_000_000_000_000;
 const TIMELOCK: u64 = 172_800;
 
 /// The number, or one beside it.
-fn near(r: &mut Random, n: i128) -> i128 {
+pub fn near(r: &mut Random, n: i128) -> i128 {
     n.wrapping_add(r.of_list(&[0, 0, 0, 1, -1]))
 }
 
@@ -18,7 +18,7 @@ fn near_time(r: &mut Random, n: u64) -> u64 {
 }
 
 /// Any amount, the ends of the range and of a deposit more often.
-fn any_amount(r: &mut Random) -> i128 {
+pub fn any_amount(r: &mut Random) -> i128 {
     match r.weighted(&[30, 20, 10, 8, 8, 8, 6, 4, 6]) {
         0 => r.below(12) as i128,
         1 => r.below(2_000) as i128,
@@ -35,7 +35,7 @@ fn any_amount(r: &mut Random) -> i128 {
     }
 }
 
-fn not_negative(r: &mut Random) -> i128 {
+pub fn not_negative(r: &mut Random) -> i128 {
     match any_amount(r) {
         n if n < 0 => n.wrapping_neg().max(0),
         n => n,

@@ -13,11 +13,16 @@ mod previews;
 mod program;
 mod report;
 mod scenario;
+mod self_test;
 mod situation;
 mod start_image;
 mod stream;
 mod sweep;
 mod table;
+mod tolls;
+mod tolls_cases;
+mod tolls_mistake;
+mod tolls_random;
 mod trial;
 mod trial_mistake;
 mod vectors;
@@ -51,10 +56,10 @@ driver --trial-records START FIRST COUNT
   --seed S      the run's seed (1)
   --jobs J      so many threads (1)
   --scenario N  one scenario of the run alone
-  --vectors F   write the vectors, made by the Rust side alone, to the folder F
+  --vectors F   write the vectors to the folder F: the calls with answers made by the Rust side alone, and lines of toll bounds
   --program     compare the lines of the program (VAULT_PROGRAM, or target/bin/token_vault_main) on streams of records;
                 then wrong programs on the same, each of which has to be found
-  --self-test   plant mistakes in the Rust side's outcome; each has to be found
+  --self-test   plant mistakes in the Rust side's outcome, and in the model's trial records and toll bounds; each has to be found
   --partial     a pair of operation and answer, of a call or a preview, that was not reached is no failure
   --trial-records START FIRST COUNT
                 write so many trial records, made by the model, to standard output";
@@ -95,8 +100,7 @@ fn main() {
         exit(if program::run(o.seed, o.partial) { 0 } else { 1 });
     }
     if o.self_test {
-        self_test(o.seed, o.calls);
-        return;
+        exit(if self_test::run(o.seed, o.calls) { 0 } else { 1 });
     }
     if let Some(request) = o.trial_records {
         trial::write(request).unwrap_or_else(|error| not_written("driver", error));
@@ -114,6 +118,7 @@ fn main() {
     }
     cases::run();
     trial::run(o.seed).unwrap_or_else(|difference| differs(o.seed, &difference));
+    tolls::run(o.seed).unwrap_or_else(|difference| differs(o.seed, &difference));
     let start = Instant::now();
     let made = sweep::run(o.seed).unwrap_or_else(|difference| differs(o.seed, &difference));
     let seconds = start.elapsed().as_secs_f64();
@@ -208,40 +213,4 @@ fn all_scenarios(o: &Options, start: Instant) -> (Run, u64, Option<Box<Failure>>
     });
     failures.sort_by_key(|f| f.scenario);
     (whole, next.load(Ordering::SeqCst), failures.into_iter().next())
-}
-
-/// Each planted mistake has to be found, and the run without one has to pass.
-fn self_test(seed: u64, calls: u64) {
-    let mut missed = 0;
-    for planted in mistake::ALL {
-        let mut run = Run::new(seed, Some(planted));
-        let mut scenario = 0;
-        let found = loop {
-            if run.calls >= calls {
-                break None;
-            }
-            if let Err(failure) = run.scenario(scenario) {
-                break Some(failure);
-            }
-            scenario += 1;
-        };
-        match found {
-            Some(f) => {
-                println!("{planted:?}: found after {} calls, by {}", run.calls, f.difference.what);
-                if !f.before.image.is_empty() {
-                    let (start, _) = compare::shrink(&f.before, &f.call, f.with_journal, &f.difference.what, Some(planted));
-                    let left = start.image.iter().filter(|b| **b != 0).count();
-                    println!("    an image with {left} bytes other than 0 is enough");
-                }
-            }
-            None => {
-                println!("{planted:?}: NOT FOUND in {} calls", run.calls);
-                missed += 1;
-            }
-        }
-    }
-    println!("{} planted mistakes found, {missed} missed", mistake::ALL.len() - missed);
-    if missed > 0 {
-        exit(1);
-    }
 }

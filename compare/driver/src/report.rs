@@ -1,7 +1,15 @@
-//! What is printed where the vault and the Rust side differ.
+//! What is printed where the vault and the Rust side differ, or where cases are missing.
 use crate::scenario::Failure;
 use crate::{compare, table};
 use model::vault::Call;
+
+/// That a comparison met each of these kinds of cases.
+pub fn all_met<'a>(of: &str, mut kinds: impl Iterator<Item = (&'a str, u64)>) -> Result<(), String> {
+    match kinds.find(|(_, times)| *times == 0) {
+        Some((kind, _)) => Err(format!("{of}, no case {kind}")),
+        None => Ok(()),
+    }
+}
 
 fn hex(bytes: &[u8]) -> String {
     bytes.iter().map(|b| format!("{b:02x}")).collect()

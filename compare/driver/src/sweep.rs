@@ -32,7 +32,7 @@ fn view() -> (Vec<u8>, Vec<u8>) {
     ([&[27][..], &[0; 447]].concat(), vec![0; 896])
 }
 
-fn values(byte: u8) -> [u8; 5] {
+pub fn values(byte: u8) -> [u8; 5] {
     [byte ^ 1, byte ^ 0x80, byte.wrapping_add(2), 0, 0xff]
 }
 

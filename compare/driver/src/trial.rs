@@ -1,7 +1,8 @@
 //! Trial records of the library beside those of the model; and a list of them as vectors.
 use crate::directed::call;
 use crate::ffi::Fenced;
-use crate::trial_mistake::{Mistake, ALL};
+use crate::report;
+use crate::trial_mistake::Mistake;
 use crate::vectors::List;
 use model::random::Random;
 use model::record::LENGTH;
@@ -162,7 +163,7 @@ fn first_difference(cases: &[Case], mistake: Option<Mistake>) -> Option<String> 
     cases.iter().find_map(|case| {
         let what = case.compare(mistake).err()?;
         let Case { start, first, lent, cut } = case;
-        Some(format!("trial records, start {start}, first {first}, {} bytes, first part of {cut} records: {what}", lent.len()))
+        Some(format!("start {start}, first {first}, {} bytes, first part of {cut} records: {what}", lent.len()))
     })
 }
 
@@ -170,9 +171,7 @@ fn first_difference(cases: &[Case], mistake: Option<Mistake>) -> Option<String> 
 fn kinds(cases: &[Case]) -> Result<String, String> {
     let mut met = [0; KINDS.len()];
     cases.iter().for_each(|case| met[case.request().kind()] += 1);
-    if let Some(kind) = met.iter().position(|times| *times == 0) {
-        return Err(format!("trial records, no case {}", KINDS[kind]));
-    }
+    report::all_met("trial records", KINDS.into_iter().zip(met))?;
     let texts: Vec<String> = KINDS.iter().zip(met).map(|(kind, times)| format!("{times} {kind}")).collect();
     Ok(texts.join(", "))
 }
@@ -188,24 +187,28 @@ fn first_numbers() -> Result<(), String> {
     Ok(())
 }
 
-/// The comparison; then the planted mistakes, each of which has to be found by the random cases.
+fn random(seed: u64) -> Vec<Case> {
+    let mut r = Random::of(seed, REQUESTS);
+    (0..RANDOM).map(|_| Case::random(&mut r)).collect()
+}
+
+/// Where a planted mistake is found, by the random cases.
+pub fn found(seed: u64, mistake: Mistake) -> Option<String> {
+    first_difference(&random(seed), Some(mistake)).map(|difference| format!("in a random case, {difference}"))
+}
+
 pub fn run(seed: u64) -> Result<(), String> {
     first_numbers()?;
     let long = STARTS.map(|start| Case { start, first: 1, lent: vec![0xa5; LONG * LENGTH], cut: LONG / 3 });
-    let mut r = Random::of(seed, REQUESTS);
-    let cases: Vec<Case> = (0..RANDOM).map(|_| Case::random(&mut r)).collect();
+    let cases = random(seed);
     if let Some(difference) = first_difference(&long, None).or_else(|| first_difference(&cases, None)) {
-        return Err(difference);
+        return Err(format!("trial records, {difference}"));
     }
     let kinds = kinds(&cases)?;
-    if let Some(missed) = ALL.iter().find(|mistake| first_difference(&cases, Some(**mistake)).is_none()) {
-        return Err(format!("trial records, {missed:?}: NOT FOUND"));
-    }
     println!(
         "trial records: {LONG} from each of {} starting numbers and {RANDOM} random cases ({kinds}), whole and in two parts, \
-         0 differences, {} planted mistakes found",
-        STARTS.len(),
-        ALL.len()
+         0 differences",
+        STARTS.len()
     );
     Ok(())
 }

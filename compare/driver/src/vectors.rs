@@ -3,10 +3,11 @@ use crate::compare::{copy, operate};
 use crate::scenario::{list_operation, operation};
 use crate::situation::{Seen, Situations};
 use crate::table::Table;
-use crate::{bad_images, bad_journals, cases, directed, fields, generate, previews, trial};
+use crate::{bad_images, bad_journals, cases, directed, fields, generate, previews, tolls_cases, trial};
 use model::image::LENGTH;
 use model::random::Random;
 use model::vault::{Answer, Call, Vault};
+use std::io;
 use std::path::Path;
 
 /// What the program that replays vectors has room for.
@@ -248,8 +249,8 @@ fn all(seed: u64) -> Vec<List> {
     all
 }
 
-/// Writes the calls to `stdin` and the answers to `stdout` in a folder.
-pub fn write(folder: &Path, seed: u64) -> std::io::Result<()> {
+/// Writes the calls to `stdin` and the answers to `stdout` in a folder, and lines of toll bounds, which are those of any seed.
+pub fn write(folder: &Path, seed: u64) -> io::Result<()> {
     let (mut bytes, mut lines, mut calls) = (Vec::new(), String::new(), 0);
     let lists = all(seed);
     for list in &lists {
@@ -269,6 +270,8 @@ pub fn write(folder: &Path, seed: u64) -> std::io::Result<()> {
     std::fs::create_dir_all(folder)?;
     std::fs::write(folder.join("stdin"), &bytes)?;
     std::fs::write(folder.join("stdout"), &lines)?;
-    println!("vectors: {} lists, {calls} calls, {} bytes", lists.len(), bytes.len());
+    let bounds = tolls_cases::lines().map_err(io::Error::other)?;
+    std::fs::write(folder.join("toll_bounds.txt"), tolls_cases::file(&bounds))?;
+    println!("vectors: {} lists, {calls} calls, {} bytes; {} lines of toll bounds", lists.len(), bytes.len(), bounds.len());
     Ok(())
 }
