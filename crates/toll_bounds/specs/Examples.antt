@@ -1,4 +1,4 @@
--- The definitions computed: the example of docs/FORMATS.md, the ends of each refusal, and their order.
+-- The definitions computed: the example of docs/FORMATS.md, the ends of each refusal, their order, and moves at a toll.
 use mathlib.Core.Path.{_≡_, refl, sym, _∙_}
 use mathlib.Core.Bool.{true}
 use mathlib.Core.List.{List, [], _∷_, _++_}
@@ -13,11 +13,12 @@ use Rattle.amount.specs.Biased.{bias, amountAt, putAmount}
 use Rattle.storage.specs.Facts.{test}
 use Rattle.storage.specs.Writes.{good-kind, good-holding}
 use Rattle.storage.specs.Zeros.{empty-good}
-use Rattle.image.specs.Layout.{kind}
+use Rattle.image.specs.Layout.{kind, holding}
 use Rattle.image.specs.Good.{goodImage}
-use Rattle.token.specs.Token.{arrives}
+use Rattle.token.specs.Token.{arrives, debited, received, transferNumber, transferOf, transferred}
 use Rattle.toll_bounds.specs.Bounds.{amountIn, holdingAfter, holdingAtToll, imageNumber, listNumber, tollsNumber, tokenNumber, requestChecks, requestNumber, areAbove, amountsNumber, passNumber, boundsNumber, tollBounds}
 use Rattle.toll_bounds.specs.Laws.{bounds-given}
+use Rattle.toll_bounds.specs.Theorems.{movedIn}
 
 -- ---- 46: no amount, sixteen amounts, and lists of 255, 257 and 272 bytes
 lists : (listNumber 0 ≡ 0) × (listNumber 48 ≡ 0) × (listNumber 256 ≡ 0) × (listNumber 255 ≡ 46) × (listNumber 257 ≡ 46) × (listNumber 272 ≡ 46)
@@ -117,3 +118,11 @@ unfolding boundsNumber requestNumber passing
 then-4 =
     let request = sym (link-at (requestChecks exampleImage 48 48 bias bias) 3 0 (lists .1, (tolls .0, (tokens .0, tt))) refl) in
     sym (link-at _ 2 4 (image-passed, (request, λ z. let w = both-hold .1 in omega arith)) (sym (both-hold .1)))
+
+-- ---- the token itself: at a toll of 3 address 2, which holds 16, moves the three amounts, and 7, 2 and 0 arrive. A transfer that failed would move nothing
+unfoldable tollImage : List ℕ
+tollImage = putAmount (putAmount (putAmount (put 8 (replicate 36832 0) 3680 1) 3688 (bias + 3)) 4080 (bias + 100)) 4096 (bias + 16)
+
+moves-leave : (holding (movedIn tollImage 48 (λ i. 2) (amountIn exampleAmounts) 3) 0 1 ≡ bias + 109) × (holdingAtToll tollImage 48 exampleAmounts (bias + 3) ≡ bias + 109)
+unfolding movedIn transferred transferNumber transferOf verdict received debited holdingAfter arrives tollImage exampleAmounts amountAt putAmount put le bias
+moves-leave = (refl, refl)
