@@ -1,4 +1,4 @@
 -- Lemmas of this crate's proofs.
-pub mod Moved
+pub mod Transfers
 pub mod Proved
 pub mod Whole

@@ -1,5 +1,5 @@
 -- The theorems of toll bounds.
-use mathlib.Core.Path.{_≡_, refl, sym, ap, _∙_}
+use mathlib.Core.Path.{_≡_, refl, ap, _∙_}
 use mathlib.Core.Bool.{true}
 use mathlib.Core.List.{List}
 use Prim.Native.Nat.{ℕ, _+_, _≤_, _<_}
@@ -15,7 +15,7 @@ use Rattle.storage.specs.Writes.{holding-range}
 use Rattle.toll_bounds.specs.Bounds.{amountCount, amountIn, holdingAfter, holdingAtToll, boundsNumber, tollBounds}
 use Rattle.toll_bounds.specs.Laws.{after-least, after-falls, bounds-given, bounds-refused, not-refused, allowed}
 use Rattle.toll_bounds.specs.Theorems.{AreAmounts, Between, Met, movedIn, AllMove, TollBounds}
-use Rattle.toll_bounds.proofs.Moved.{moved-in}
+use Rattle.toll_bounds.proofs.Transfers.{moved-in}
 
 module _ (l : List ℕ) (t : ℕ) (a : List ℕ) (least greatest : ℕ) (e : tollBounds l t a least greatest .number ≡ 0) where
   is-between : (f : ℕ) → least ≤ f → f ≤ greatest → Between (tollBounds l t a least greatest) (holdingAtToll l t a f)

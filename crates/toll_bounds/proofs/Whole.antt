@@ -1,17 +1,16 @@
 -- The whole answer, from what the checks and the two holdings say: one lemma for each way out.
-use mathlib.Core.Path.{_≡_, refl, sym, ap, _∙_}
+use mathlib.Core.Path.{_≡_, refl, sym, _∙_}
 use mathlib.Core.Bool.{true, false}
 use mathlib.Core.List.{List}
-use Prim.Native.Nat.{ℕ, _<_}
+use Prim.Native.Nat.{ℕ}
 use native.Mathlib.Omega.{arith}
 use lib.ListN.{length}
-use Rattle.amount.specs.Biased.{bias}
 use Rattle.image.specs.Layout.{slot, holding}
 use Rattle.image.specs.Good.{goodImage}
 use Rattle.fields.specs.Rules.{link-at}
 use Rattle.toll_bounds.specs.declared.Tally.{Tally}
 use Rattle.toll_bounds.specs.declared.Holdings.{Holdings}
-use Rattle.toll_bounds.specs.Bounds.{amountCount, amountIn, holdingAfter, holdingAtToll, imageNumber, requestNumber, amountsNumber, boundsChecks, boundsNumber, refused, tollBounds}
+use Rattle.toll_bounds.specs.Bounds.{amountCount, amountIn, holdingAtToll, imageNumber, requestNumber, amountsNumber, boundsChecks, boundsNumber, refused, tollBounds}
 use Rattle.toll_bounds.specs.Laws.{after-falls, pass-none, bounds-given, bounds-refused, allowed}
 use Rattle.toll_bounds.specs.Parts.{TallyIs, HoldingsAre}
 
@@ -50,14 +49,14 @@ module _ (l : List ℕ) (t : ℕ) (a : List ℕ) (least greatest : ℕ) where
             link-at (boundsChecks l t a least greatest) 3 _ (passed-30, (sym p ∙ y, (sym q ∙ z, λ w. n (e ∙ w)))) e
 
         -- ---- not refused: at the greatest toll the holding does not pass either
-        not-refused : high .number ≡ 0 → boundsNumber l t a least greatest ≡ 0
+        passed-all : high .number ≡ 0 → boundsNumber l t a least greatest ≡ 0
         unfolding boundsNumber
-        not-refused n = sym (link-at (boundsChecks l t a least greatest) 4 0 (passed-30, (sym p ∙ y, (sym q ∙ z, (sym (at-least-toll .numbered) ∙ n, tt)))) refl)
+        passed-all n = sym (link-at (boundsChecks l t a least greatest) 4 0 (passed-30, (sym p ∙ y, (sym q ∙ z, (sym (at-least-toll .numbered) ∙ n, tt)))) refl)
 
         pub given-is : high .number ≡ 0 → {low : Tally} → TallyIs greatest h (amountIn a) (amountCount a) low
             → HoldingsAre (tollBounds l t a least greatest) (record { number = 0; least = low .sum; greatest = high .sum })
         given-is n {low} v =
-            let e = not-refused n in
+            let e = passed-all n in
             let w = allowed l t a least greatest e in
             let at-greatest-toll : TallyIs greatest (holding l (slot t) 1) (amountIn a) (amountCount a) low = rw b at v in
             let less = after-falls least greatest (holding l (slot t) 1) (amountIn a) (amountCount a) (w .in-order) in

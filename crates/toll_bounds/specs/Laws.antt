@@ -68,13 +68,13 @@ passed-before toll held amounts i n h p =
     pass-stop _ (omega arith)
 
 -- ---- 30, 4 and 46
-held : (b : Bool) (k : ℕ) → pick b 0 (suc k) ≡ 0 → b ≡ true
-held true k e = refl
-held false k e = absurd (omega arith)
+picked : (b : Bool) (k : ℕ) → pick b 0 (suc k) ≡ 0 → b ≡ true
+picked true k e = refl
+picked false k e = absurd (omega arith)
 
 pub image-good : (l : List ℕ) → imageNumber l ≡ 0 → goodImage l ≡ true
 unfolding imageNumber
-image-good l e = held (goodImage l) 29 e
+image-good l e = picked (goodImage l) 29 e
 
 pub amounts-none : (a : List ℕ) (n : ℕ) → ((i : ℕ) → i < n → bias < amountIn a i) → 0 ≡ amountsNumber a n
 unfolding amountsNumber areAbove
@@ -86,7 +86,7 @@ amounts-stop a i n h p = rw (← all-stop (λ k. ltb bias (amountIn a k)) i n h 
 
 pub amounts-above : (a : List ℕ) (n : ℕ) → amountsNumber a n ≡ 0 → (i : ℕ) → i < n → bias < amountIn a i
 unfolding amountsNumber areAbove
-amounts-above a n e i h = ltb-true bias (amountIn a i) (all-at _ n i h (held (areAbove a n) 3 e))
+amounts-above a n e i h = ltb-true bias (amountIn a i) (all-at _ n i h (picked (areAbove a n) 3 e))
 
 -- what a request says that is not refused with 46
 pub record Request (l : List ℕ) (t bytes least greatest : ℕ) : Type 0 where

@@ -1,14 +1,12 @@
 -- The token's own transfers, one after another: the image stays good, the toll stays, and address 1 holds what the definition says.
 use mathlib.Core.Path.{_≡_, refl, ap, _∙_}
-use mathlib.Core.Bool.{true}
 use mathlib.Core.List.{List}
 use Prim.Native.Nat.{ℕ, zero, suc, _+_, _≤_, _<_}
 use native.Mathlib.Omega.{arith}
 use Rattle.amount.specs.Biased.{bias}
 use Rattle.image.specs.Layout.{slot, toll, holding}
-use Rattle.image.specs.Good.{goodImage}
-use Rattle.storage.specs.Facts.{Good, facts}
-use Rattle.token.specs.Token.{arrives, transferNumber, transferOf, transferred}
+use Rattle.storage.specs.Facts.{Good}
+use Rattle.token.specs.Token.{arrives, transferNumber, transferred}
 use Rattle.token.specs.Laws.{transfer-free, transfer-done, transfer-tolls, transfer-arrives, good-transfer}
 use Rattle.toll_bounds.specs.Bounds.{holdingAfter}
 use Rattle.toll_bounds.specs.Theorems.{movedIn, AllMove}
