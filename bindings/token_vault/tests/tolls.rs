@@ -2,6 +2,7 @@
 mod common;
 
 use common::{paused_vault, vault, OWNER, TOKEN, TOLL_TOKEN};
+use std::collections::HashMap;
 use token_vault::layout::{image as at, IMAGE_LENGTH};
 use token_vault::{exports, Address, Image, Record, Refusal, VAULT_ADDRESS};
 
@@ -412,4 +413,34 @@ fn where_the_token_itself_fails() {
         }
     }
     assert!(failed > 0);
+}
+
+/// The lines of docs/VECTORS.md, "Toll bounds".
+#[test]
+fn the_stored_lines_pass() {
+    let text = include_str!("../../../compare/vectors/toll_bounds.txt");
+    let lines: Vec<&str> = text.lines().filter(|line| !line.starts_with('#')).collect();
+    for line in &lines {
+        let fields: HashMap<&str, &str> = line.split(' ').map(|field| field.split_once('=').unwrap()).collect();
+        let number = |name| -> i128 { fields[name].parse().unwrap() };
+        let listed = fields["amounts"].split(',').filter(|word| !word.is_empty()).map(|word| word.parse().unwrap());
+        let mut amounts = bytes(&listed.collect::<Vec<i128>>());
+        amounts.resize(number("amount_bytes") as usize, 0);
+        let found = bounds_of_bytes(&line_image(number), number("token") as Address, &amounts, [number("least"), number("greatest")]);
+        let [least, greatest] = ["least_holding", "greatest_holding"].map(number);
+        assert_eq!(found, Bounds { number: number("answer") as u32, least, greatest }, "{line}");
+    }
+    assert_eq!(lines.len(), 85);
+}
+
+/// The image that a line says.
+fn line_image(number: impl Fn(&'static str) -> i128) -> Vec<u8> {
+    let token = number("at") as Address;
+    let mut image = Image::new();
+    image.add_token(token, number("toll")).unwrap();
+    image.set_holding(token, VAULT_ADDRESS, number("held")).unwrap();
+    let mut bytes = image.into_bytes();
+    bytes[at::TOKENS + at::TOKEN_STRIDE * usize::from(token - TOKEN)] = number("kind") as u8;
+    bytes.resize(number("image_bytes") as usize, 0);
+    bytes
 }
