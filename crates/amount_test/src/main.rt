@@ -1,4 +1,6 @@
 // Sums, differences, negation, order, sign and bytes of amounts at both ends of their 128 bits.
+#![tactic(auto)]
+
 use amount::{Amount, Sum};
 
 fn most() -> Amount {

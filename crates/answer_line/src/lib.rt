@@ -1,4 +1,6 @@
 // The line that is printed for an answer, and bytes in hexadecimal digits. Text is written from the end of a buffer towards its start: each function puts its bytes before index `at`, and returns where they begin.
+#![tactic(auto)]
+
 ghost use Rattle.std.specs.Prelude.{◌≡◌, ◌∷◌, ◌++◌, ◌+◌, ◌*◌, ◌^◌, ◌<◌, ◌≤◌, ltb, length, drop};
 ghost use Rattle.amount.specs.Value.{value};
 ghost use Rattle.answer_line.specs.Decimal.{decimal, signed, answer_words, line};

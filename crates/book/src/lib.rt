@@ -1,1 +1,2 @@
 // The book of demand 3: definitions and laws only, in specs/.
+#![tactic(auto)]

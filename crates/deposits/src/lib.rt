@@ -1,4 +1,6 @@
 // Operations 2 `deposit`, 3 `deposit_with_fee`, 7 `deposit_token` and 9 `deposit_with_failure_report` (lib.rs).
+#![tactic(auto)]
+
 ghost use Rattle.std.specs.Prelude.{◌≡◌, [], ◌+◌, ◌<◌, ◌≤◌, length};
 ghost use Rattle.amount.specs.Biased.{bias, biased};
 ghost use Rattle.image.specs.Layout.{image_length, slot, holding};

@@ -1,4 +1,6 @@
 // The vault's events (events.rs): one function a kind, and the buffer of 896 bytes that holds up to sixteen of them.
+#![tactic(auto)]
+
 ghost use Rattle.std.specs.Prelude.{◌≡◌, [], ◌+◌, ◌<◌, ◌≤◌, length};
 ghost use Rattle.amount.specs.Biased.{num, biased};
 ghost use Rattle.events.specs.Splice.{splice};

@@ -1,4 +1,6 @@
 // Each kind of event, written to a place of the buffer: its 56 bytes in hexadecimal, and whether the rest of the buffer is zero.
+#![tactic(auto)]
+
 ghost use Rattle.std.specs.Prelude.{◌≡◌, ◌+◌, ◌<◌, ◌≤◌, length};
 
 use amount::Amount;

@@ -1,4 +1,6 @@
 // Writes numbers at the edges of their widths and of a slice of 16 bytes, reads them back, and prints what stands there.
+#![tactic(auto)]
+
 ghost use Rattle.std.specs.Prelude.{◌≡◌, length};
 
 fn line(n: u64) {

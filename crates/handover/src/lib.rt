@@ -1,4 +1,6 @@
 // Operations 15 to 17: the owner is proposed and accepted, and how long a proposal lives (lib.rs).
+#![tactic(auto)]
+
 ghost use Rattle.std.specs.Prelude.{◌≡◌, [], ◌<◌, length};
 ghost use Rattle.image.specs.Layout.{image_length};
 ghost use Rattle.storage.specs.Facts.{Good};

@@ -1,4 +1,6 @@
 // Whether an image is good: one function for each part of the definition.
+#![tactic(auto)]
+
 ghost use Rattle.std.specs.Prelude.{◌≡◌, ◌+◌, ◌*◌, ◌≤◌, ◌<◌, ltb, leb, eqb, length};
 ghost use Rattle.fields.specs.Bytes.{le};
 ghost use Rattle.amount.specs.Biased.{amount_at, bias, sign_of};

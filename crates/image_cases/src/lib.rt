@@ -1,4 +1,6 @@
 // Closed images that `goodImage` takes or refuses: definitions in specs/, and the function that carries them.
+#![tactic(auto)]
+
 ghost use Rattle.image_cases.specs.Cases.{GoodCases, DamagedCases};
 
 // The image test on closed images, good and damaged.

@@ -1,4 +1,6 @@
 // The image test: 1 where an image is good. An empty and a working image, wrong lengths, then one byte of the working image changed at a time.
+#![tactic(auto)]
+
 ghost use Rattle.std.specs.Prelude.{◌≡◌, ◌<◌, length};
 
 use amount::Amount;

@@ -1,4 +1,6 @@
 // The undo journal of an image: whether it is good, the calls that open and close it, and an operation's changed cells entered and taken back.
+#![tactic(auto)]
+
 ghost use Rattle.std.specs.Prelude.{◌≡◌, List, [], ◌++◌, ℕ, suc, ◌+◌, ◌-◌, ◌*◌, ◌<◌, ◌≤◌, length, take, drop, replicate};
 ghost use Rattle.fields.specs.Bytes.{le, put};
 ghost use Rattle.fields.specs.Same.{same_bytes_of};

@@ -1,4 +1,6 @@
 // What the benchmark times of the journal, for C and Rust: the changed cells of two images found a word at a time, as a call finds them, and a byte at a time; and the journal's test. No call of the vault is linked with it.
+#![tactic(auto)]
+
 ghost use Rattle.std.specs.Prelude.{◌≡◌};
 ghost use Rattle.fields.specs.Rules.{pick};
 ghost use Rattle.journal.specs.Journal.{good_journal};

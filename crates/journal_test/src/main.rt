@@ -1,4 +1,5 @@
 // The undo journal over an image of four cells: the number that each call answers, and the bytes of image and journal, as decimals.
+#![tactic(auto)]
 
 fn wide(x: u8) -> u64 {
     x as u64

@@ -1,4 +1,6 @@
 // Operations 21 to 23: the emergency migration of the vault's holding to a destination (lib.rs).
+#![tactic(auto)]
+
 ghost use Rattle.std.specs.Prelude.{◌≡◌, [], ◌<◌, length};
 ghost use Rattle.amount.specs.Biased.{biased};
 ghost use Rattle.image.specs.Layout.{image_length, initialised};

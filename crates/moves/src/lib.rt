@@ -1,4 +1,6 @@
 // Operations 29 and 30, which the contract's Rust does not have: a transfer between others, and a token frozen or thawed.
+#![tactic(auto)]
+
 ghost use Rattle.std.specs.Prelude.{◌≡◌, [], ◌<◌, length};
 ghost use Rattle.amount.specs.Biased.{biased};
 ghost use Rattle.image.specs.Layout.{image_length};

@@ -1,4 +1,6 @@
 // The operations by their numbers: `operate` for those that may change the image, `look` for the views.
+#![tactic(auto)]
+
 ghost use Rattle.std.specs.Prelude.{◌≡◌, true, false, [], length};
 ghost use Rattle.storage.specs.Facts.{Good};
 ghost use Rattle.record.specs.Record.{operation_of};

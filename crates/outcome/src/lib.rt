@@ -1,4 +1,6 @@
 // The answer of an operation: its number, 0 when done, its value, and its count of events.
+#![tactic(auto)]
+
 ghost use Rattle.std.specs.Prelude.{◌≡◌, [], ◌∷◌};
 ghost use Rattle.amount.specs.Biased.{bias, biased};
 ghost use Rattle.events.specs.Event.{fields_of, event_buffer};

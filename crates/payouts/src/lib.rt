@@ -1,4 +1,6 @@
 // Operations 5 `withdraw`, 6 `withdraw_batch` and 8 `withdraw_token` (lib.rs).
+#![tactic(auto)]
+
 ghost use Rattle.std.specs.Prelude.{◌≡◌, [], ◌∷◌, ◌<◌, ◌≤◌, length};
 ghost use Rattle.amount.specs.Biased.{bias, biased, num};
 ghost use Rattle.image.specs.Layout.{image_length, slot, holding, initialised};

@@ -1,4 +1,6 @@
 // The record of a call, 448 bytes: its fields, which of them each operation reads, and refusal 32.
+#![tactic(auto)]
+
 ghost use Rattle.std.specs.Prelude.{◌≡◌, ◌<◌, ◌≤◌, ltb, length};
 ghost use Rattle.fields.specs.Logic.{◌and◌};
 ghost use Rattle.amount.specs.Biased.{biased};

@@ -1,4 +1,6 @@
 // Refusal 32: lengths, operations, the bounds of each field, and the fields that each operation reads; then the fields of one record.
+#![tactic(auto)]
+
 ghost use Rattle.std.specs.Prelude.{◌≡◌, ◌<◌, length};
 
 use amount::Amount;

@@ -1,4 +1,6 @@
 // Operations 10 to 14, 18 and 19: limits, operator and pause (lib.rs).
+#![tactic(auto)]
+
 ghost use Rattle.std.specs.Prelude.{◌≡◌, [], ◌<◌, length};
 ghost use Rattle.amount.specs.Biased.{biased};
 ghost use Rattle.image.specs.Layout.{image_length, initialised};

@@ -1,4 +1,6 @@
 // Operations 1 `initialize` and 20 `approve_token` (lib.rs).
+#![tactic(auto)]
+
 ghost use Rattle.std.specs.Prelude.{◌≡◌, [], ◌<◌, ◌≤◌, eqb, length};
 ghost use Rattle.fields.specs.Rules.{pick};
 ghost use Rattle.amount.specs.Biased.{biased};

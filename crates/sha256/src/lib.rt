@@ -1,4 +1,6 @@
 // SHA-256 (FIPS 180-4) of a byte slice, proved equal to the definition in specs/Sha256.antt.
+#![tactic(auto)]
+
 ghost use Rattle.std.specs.Prelude.{◌≡◌, suc, ◌+◌, ◌-◌, ◌*◌, ◌/◌, ◌%◌, ◌<◌, ◌≤◌, ◌∷◌, ◌++◌, length, take, replicate};
 ghost use Rattle.sha256.specs.Sha256.{plus, rotate_right, choose, majority, big_sigma0, big_sigma1, small_sigma0, small_sigma1, initial, bytes_of, padding, word_at, words, extended, temporary1, temporary2, round, rounds, sum, compress, blocks, bytes_of_words, sha256};
 

@@ -1,4 +1,6 @@
 // What storage.rs keeps in the image besides plain fields: tracked keys, credits, caps and snapshots. A token is named by its address.
+#![tactic(auto)]
+
 ghost use Rattle.std.specs.Prelude.{◌≡◌, ◌<◌, ◌≤◌, length};
 ghost use Rattle.fields.specs.Bytes.{put};
 ghost use Rattle.amount.specs.Biased.{biased};

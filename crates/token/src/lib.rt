@@ -1,4 +1,6 @@
 // The token table: SEP-41 `balance` and `transfer` by the rules of docs/FORMATS.md, "Tokens and transfers". A token is named by its address.
+#![tactic(auto)]
+
 ghost use Rattle.std.specs.Prelude.{◌≡◌, ◌+◌, ◌<◌, ◌≤◌, length};
 ghost use Rattle.amount.specs.Biased.{bias, biased, put_amount};
 ghost use Rattle.image.specs.Layout.{image_length, initialised, slot, toll, holding, holding_at};

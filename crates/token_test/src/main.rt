@@ -1,4 +1,6 @@
 // The token table: a line a transfer, with its number and then the two holdings' low halves. Token 48 moves and takes a toll of 3, token 49 is frozen, the others are absent.
+#![tactic(auto)]
+
 ghost use Rattle.std.specs.Prelude.{◌≡◌, ◌<◌, ◌≤◌, length};
 
 use amount::Amount;

@@ -1,4 +1,6 @@
 // The token vault: its public calls. Any bytes of any length get an answer.
+#![tactic(auto)]
+
 ghost use Rattle.std.specs.Prelude.{◌≡◌, true, false, length};
 ghost use Rattle.amount.specs.Biased.{bias, biased};
 ghost use Rattle.events.specs.Splice.{amount_bytes};

@@ -1,5 +1,7 @@
 // The seven calls of the token vault, its trial records and its toll bounds for C and Rust: a slice is passed as a pointer and a length, sixteen bytes and each number
 // that is written as a pointer.
+#![tactic(auto)]
+
 ghost use Rattle.journal.specs.Calls.{Call};
 ghost use Rattle.journal.specs.Step.{vault};
 ghost use Rattle.token_vault.specs.Vault.{vault_step};

@@ -1,4 +1,6 @@
 // The program of the token vault: reads an image, then records, and prints a line a record.
+#![tactic(auto)]
+
 fn main() {
     vault_program::main_loop();
 }

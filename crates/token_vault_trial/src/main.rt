@@ -1,5 +1,7 @@
 // Writes trial records to standard output (docs/FORMATS.md, "Trial records"). Its arguments, in decimal: START, a starting number; FIRST, the first record's number; and COUNT, how many records.
 // Where they are wrong, a line with a number goes to standard error and nothing to standard output: a program of Rattle has no exit status of its own.
+#![tactic(auto)]
+
 ghost use Rattle.std.specs.Prelude.{◌≡◌, true, ◌+◌, ◌*◌, ◌^◌, ◌<◌, ◌≤◌, ltb, length};
 ghost use Rattle.trial_records.specs.Trial.{reached_from};
 ghost use Rattle.token_vault_trial.specs.Arguments.{malformed, is_digit, digits_after, read_decimal, argument_fault, fault_text, fault_line};

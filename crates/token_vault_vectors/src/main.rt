@@ -1,4 +1,6 @@
 // Replays the vectors of docs/VECTORS.md: lists of calls from standard input, a line a call to standard output. The stored lines are those of the contract's Rust and of the model. At malformed input the run ends with a line to standard error.
+#![tactic(auto)]
+
 ghost use Rattle.std.specs.Prelude.{◌≡◌, ◌≤◌, ◌<◌, length, drop};
 ghost use Rattle.fields.specs.Bytes.{le};
 ghost use Rattle.journal.specs.Step.{vault};

@@ -1,4 +1,6 @@
 // Toll bounds (docs/FORMATS.md, "Toll bounds"): the least and the greatest holding of the vault after amounts are moved in at a toll that is known within bounds.
+#![tactic(auto)]
+
 ghost use Rattle.std.specs.Prelude.{◌≡◌, ◌+◌, ◌*◌, ◌<◌, ◌≤◌, length};
 ghost use Rattle.amount.specs.Biased.{bias, biased, amount_at};
 ghost use Rattle.image.specs.Layout.{image_length};

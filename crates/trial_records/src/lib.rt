@@ -1,4 +1,6 @@
 // Trial records (docs/FORMATS.md, "Trial records"): records of 448 bytes that any house makes from a starting number, for a load.
+#![tactic(auto)]
+
 ghost use Rattle.std.specs.Prelude.{◌≡◌, ◌+◌, ◌*◌, ◌/◌, ◌%◌, ◌^◌, ◌<◌, ◌≤◌, length};
 ghost use Rattle.fields.specs.Bytes.{put};
 ghost use Rattle.trial_records.specs.Generator.{next, draw, steps};

@@ -1,4 +1,6 @@
 // The program: an image and then records of 448 bytes from standard input, a line a record to standard output.
+#![tactic(auto)]
+
 ghost use Rattle.std.specs.Prelude.{◌≡◌, ◌≤◌, length, drop};
 ghost use Rattle.amount.specs.Value.{value};
 ghost use Rattle.vault_program.specs.Program.{signed_at, record_step, IsLine, Prints};

@@ -1,4 +1,6 @@
 // The line of a call of the vectors: its answer, and the digests of event buffer, image and journal after it (docs/VECTORS.md).
+#![tactic(auto)]
+
 ghost use Rattle.std.specs.Prelude.{◌≡◌, ◌++◌, ◌+◌, ◌≤◌, length, drop};
 ghost use Rattle.answer_line.specs.Decimal.{answer_words};
 ghost use Rattle.answer_line.specs.Hexadecimal.{hexadecimal};
