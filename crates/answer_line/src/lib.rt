@@ -9,7 +9,7 @@ ghost use Rattle.answer_line.specs.Hexadecimal.{digit, hexadecimal};
 use amount::{Amount, Sum};
 
 // A tenth of a number of 128 bits, and the digit that is left.
-#[derive(Drop)]
+#[derive(Clone, Copy)]
 struct Quotient {
     hi: u64,
     lo: u64,

@@ -15,7 +15,7 @@ use amount::Amount;
 use outcome::Answer;
 
 // What the items came to: the first refusal, or the sum.
-#[derive(Drop)]
+#[derive(Clone, Copy)]
 pub struct Tally {
     pub number: u8,
     pub sum: Amount,

@@ -9,7 +9,7 @@ ghost use Rattle.events.specs.Kinds.{initialized_event, deposited_event, token_d
 
 use amount::Amount;
 
-#[derive(Drop)]
+#[derive(Clone, Copy)]
 pub struct Event {
     pub kind: u8,
     pub first: u8,

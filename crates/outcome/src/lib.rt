@@ -9,7 +9,7 @@ ghost use Rattle.outcome.specs.Outcome.{Announced};
 use amount::Amount;
 use events::Event;
 
-#[derive(Drop)]
+#[derive(Clone, Copy)]
 pub struct Answer {
     pub number: u8,
     pub value: Amount,

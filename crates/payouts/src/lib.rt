@@ -18,7 +18,7 @@ use amount::Amount;
 use outcome::Answer;
 
 // A sum of amounts, or the number of the first refusal on the way.
-#[derive(Drop)]
+#[derive(Clone, Copy)]
 struct Tally {
     number: u8,
     sum: Amount,

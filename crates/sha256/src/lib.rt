@@ -5,7 +5,7 @@ ghost use Rattle.std.specs.Prelude.{◌≡◌, suc, ◌+◌, ◌-◌, ◌*◌, �
 ghost use Rattle.sha256.specs.Sha256.{plus, rotate_right, choose, majority, big_sigma0, big_sigma1, small_sigma0, small_sigma1, initial, bytes_of, padding, word_at, words, extended, temporary1, temporary2, round, rounds, sum, compress, blocks, bytes_of_words, sha256};
 
 // The eight working variables of the standard, and the hash value between two blocks.
-#[derive(Drop)]
+#[derive(Clone, Copy)]
 pub struct State {
     pub a: u32,
     pub b: u32,

@@ -11,7 +11,7 @@ use libc::{STDERR_FILENO, STDOUT_FILENO};
 
 // ---- the arguments
 // A number, or none.
-#[derive(Drop)]
+#[derive(Clone, Copy)]
 struct Decimal {
     is_number: bool,
     number: u64,
@@ -135,7 +135,7 @@ fn write_piece(piece: &[u8], start: u64, first: u64, made: u64, n: u64) -> bool
     io::write_all(STDOUT_FILENO, piece)
 }
 
-#[derive(Drop)]
+#[derive(Clone, Copy)]
 struct Piece {
     n: u64,
     reached: u64,
@@ -183,7 +183,7 @@ fn next_piece(
     make_piece(buffer, start, first, made, last, n)
 }
 
-#[derive(Drop)]
+#[derive(Clone, Copy)]
 struct Written {
     made: u64,
     is_written: bool,
@@ -259,7 +259,7 @@ fn write_fault(fault: u8) -> bool
 }
 
 // What is wrong with the arguments; how many records were made, and whether they were written.
-#[derive(Drop)]
+#[derive(Clone, Copy)]
 struct Ended {
     fault: u8,
     made: u64,

@@ -26,7 +26,7 @@ fn write_from(out: &[u8; 512], start: usize) -> bool
 }
 
 // Where the line begins in `out`, and whether it was written.
-#[derive(Drop)]
+#[derive(Clone, Copy)]
 struct PrintedLine {
     start: usize,
     is_written: bool,
@@ -72,7 +72,7 @@ fn run_call(
 }
 
 // How many bytes were read of the head of a call, and of its record.
-#[derive(Drop)]
+#[derive(Clone, Copy)]
 struct CallRead {
     head_read: usize,
     record_read: usize,
@@ -132,7 +132,7 @@ fn call_fault(head: &[u8; 8], read: CallRead) -> u8
 }
 
 // What was read of a call, its fault, where its line begins in `out`, and whether the line was written.
-#[derive(Drop)]
+#[derive(Clone, Copy)]
 struct AnsweredCall {
     read: CallRead,
     fault: u8,
@@ -208,7 +208,7 @@ fn next_call(
 }
 
 // How many calls were taken, the fault that ended them, and whether the last line was written.
-#[derive(Drop)]
+#[derive(Clone, Copy)]
 struct TakenCalls {
     taken: u32,
     fault: u8,
@@ -344,7 +344,7 @@ fn with_journal(image: &mut [u8], head: &[u8; 16], head_read: usize) -> TakenCal
 }
 
 // How many bytes were read of the head of a list, how many calls were taken, the fault that ended them, and whether the last line was written.
-#[derive(Drop)]
+#[derive(Clone, Copy)]
 struct TakenList {
     head_read: usize,
     taken: u32,
@@ -377,7 +377,7 @@ fn next_list() -> TakenList
 }
 
 // How many lists were taken to their end; and of the last one how many bytes were read of its head, its fault, and whether its lines were written.
-#[derive(Drop)]
+#[derive(Clone, Copy)]
 struct TakenLists {
     taken: u64,
     head_read: usize,

@@ -104,7 +104,7 @@ fn arrival(toll: Amount, amounts: &[u8], i: usize) -> Amount
 }
 
 // 7, or 0 and the holding at a toll.
-#[derive(Drop)]
+#[derive(Clone, Copy)]
 struct Tally {
     number: u8,
     sum: Amount,
@@ -128,7 +128,7 @@ fn holding_after(toll: Amount, held: Amount, amounts: &[u8], count: usize) -> Ta
 }
 
 // The answer before it is written out.
-#[derive(Drop)]
+#[derive(Clone, Copy)]
 struct Holdings {
     number: u8,
     least: Amount,

@@ -39,7 +39,7 @@ fn draw_below(number: u64, bound: u32) -> u32
 }
 
 // What six draws make, and the number that they reach.
-#[derive(Drop)]
+#[derive(Clone, Copy)]
 struct Draws {
     operation: u8,
     caller: u8,

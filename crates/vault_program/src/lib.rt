@@ -48,7 +48,7 @@ fn write_from(out: &[u8; 160], start: usize) -> bool
 }
 
 // Where the line begins in `out`, and whether it was written.
-#[derive(Drop)]
+#[derive(Clone, Copy)]
 struct PrintedLine {
     start: usize,
     is_written: bool,
@@ -63,7 +63,7 @@ fn print_answer(image: &mut [u8], record: &[u8], out: &mut [u8; 160]) -> Printed
 }
 
 // How many bytes were read of a record, where its line begins in `out`, and whether the line was written.
-#[derive(Drop)]
+#[derive(Clone, Copy)]
 struct AnsweredRecord {
     read: usize,
     start: usize,
@@ -105,7 +105,7 @@ fn next_record(image: &mut [u8], record: &mut [u8; 448], out: &mut [u8; 160]) ->
 }
 
 // How many records were taken, how many bytes the last read gave, and whether the last line was written.
-#[derive(Drop)]
+#[derive(Clone, Copy)]
 struct TakenRecords {
     taken: u64,
     read: usize,
@@ -146,7 +146,7 @@ fn all_records(image: &mut [u8], out: &mut [u8; 160]) -> TakenRecords
 }
 
 // How many bytes were read of the image, where the line of a short one begins in `out`, and the records after a whole one.
-#[derive(Drop)]
+#[derive(Clone, Copy)]
 pub struct Run {
     pub image_read: usize,
     pub start: usize,
