@@ -43,10 +43,11 @@ if [ "$name" = token_vault_abi ]; then
     echo "Proving the library: about seven minutes on two cores the first time, less where crates were proved before." >&2
     echo "What the prover prints goes to target/library.log." >&2
 fi
-mkdir -p target
-if ! rt staticlib "$name" >target/library.log 2>&1; then
+mkdir -p target/staticlib
+if ! (cd "crates/$name" && rt lib) >target/library.log 2>&1; then
     cat target/library.log >&2
     echo "library.sh: $name is not proved" >&2
     exit 1
 fi
+cp "crates/$name/out/lib$name.a" "$archive"
 digest >"$made_from"

@@ -16,7 +16,7 @@ const PAUSE: Duration = Duration::from_micros(50);
 
 const NO_LINE: &str = "no line";
 
-/// VAULT_PROGRAM, or the program that `rt check` leaves in the repository.
+/// VAULT_PROGRAM, or the program that compare/program.sh leaves in the repository.
 fn path() -> PathBuf {
     let built = concat!(env!("CARGO_MANIFEST_DIR"), "/../../target/bin/token_vault_main");
     std::env::var_os("VAULT_PROGRAM").map_or(built.into(), PathBuf::from)
