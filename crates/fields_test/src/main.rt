@@ -3,68 +3,68 @@
 
 ghost use Rattle.std.specs.Prelude.{◌≡◌, length};
 
-fn line(n: u64) {
-    io::print_decimal(1, n);
-    io::write_all(1, b"\n");
+use std::io;
+
+fn line(rt: &impl Print, n: u64) -> io::Result<()> {
+    println!(rt; "{n}")
 }
 
-fn truth(b: bool) {
+fn truth(rt: &impl Print, b: bool) -> io::Result<()> {
     if b {
-        io::write_all(1, b"yes\n");
+        println!(rt; "yes")
     } else {
-        io::write_all(1, b"no\n");
+        println!(rt; "no")
     }
 }
 
 // The sixteen bytes as two numbers in hexadecimal, the upper half first.
-fn halves(s: &[u8])
+fn halves(rt: &impl Print, s: &[u8]) -> io::Result<()>
     requires { length s.now ≡ 16 }
 {
-    io::print_hex(1, fields::get64(s, 8), 16);
-    io::print_hex(1, fields::get64(s, 0), 16);
-    io::write_all(1, b"\n");
+    print!(rt; "{:016x}", fields::get64(s, 8))?;
+    println!(rt; "{:016x}", fields::get64(s, 0))
 }
 
-fn widths(s: &mut [u8])
+fn widths(rt: &impl Print, s: &mut [u8]) -> io::Result<()>
     requires { length s.old ≡ 16 }
 {
     fields::put8(s, 15, 255);
     fields::put16(s, 13, 65534);
     fields::put32(s, 9, 4294967293);
     fields::put64(s, 1, 18446744073709551612);
-    halves(s);
-    line(fields::get8(s, 15) as u64);
-    line(fields::get16(s, 13) as u64);
-    line(fields::get32(s, 9) as u64);
-    line(fields::get64(s, 1));
-    line(fields::get16(s, 0) as u64);
+    halves(rt, s)?;
+    line(rt, fields::get8(s, 15) as u64)?;
+    line(rt, fields::get16(s, 13) as u64)?;
+    line(rt, fields::get32(s, 9) as u64)?;
+    line(rt, fields::get64(s, 1))?;
+    line(rt, fields::get16(s, 0) as u64)
 }
 
-fn slices(s: &mut [u8], t: &mut [u8])
+fn slices(rt: &impl Print, s: &mut [u8], t: &mut [u8]) -> io::Result<()>
     requires { (length s.old ≡ 16) × (length t.old ≡ 16) }
 {
     fields::copy_bytes(s, t);
-    truth(fields::same_bytes(s, t));
+    truth(rt, fields::same_bytes(s, t))?;
     fields::put8(t, 0, 1);
-    truth(fields::same_bytes(s, t));
+    truth(rt, fields::same_bytes(s, t))
 }
 
-fn zeros(t: &mut [u8])
+fn zeros(rt: &impl Print, t: &mut [u8]) -> io::Result<()>
     requires { length t.old ≡ 16 }
 {
     fields::clear(t);
-    truth(fields::are_zero(t, 0, 16));
+    truth(rt, fields::are_zero(t, 0, 16))?;
     fields::put8(t, 7, 128);
-    truth(fields::are_zero(t, 0, 7));
-    truth(fields::are_zero(t, 0, 8));
-    truth(fields::are_zero(t, 8, 8));
-    halves(t);
+    truth(rt, fields::are_zero(t, 0, 7))?;
+    truth(rt, fields::are_zero(t, 0, 8))?;
+    truth(rt, fields::are_zero(t, 8, 8))?;
+    halves(rt, t)
 }
 
-fn main() {
+fn main(rt: HostRuntime) -> io::Result<()> {
     let mut a = [0u8; 16];
     let mut b = [7u8; 16];
-    widths(&mut a);
-    slices(&mut a, &mut b);
-    zeros(&mut b);
+    widths(&rt, &mut a)?;
+    slices(&rt, &mut a, &mut b)?;
+    zeros(&rt, &mut b)
 }
