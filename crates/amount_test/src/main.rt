@@ -2,6 +2,7 @@
 #![tactic(auto)]
 
 use amount::{Amount, Sum};
+use std::io;
 
 fn most() -> Amount {
     Amount {
@@ -39,95 +40,101 @@ fn minus_one() -> Amount {
     }
 }
 
-fn truth(b: bool) {
+fn truth(rt: &impl Print, b: bool) -> io::Result<()> {
     if b {
-        io::write_all(1, b"yes\n");
+        println!(rt; "yes")
     } else {
-        io::write_all(1, b"no\n");
+        println!(rt; "no")
     }
 }
 
 // The sixteen bytes in hexadecimal, the highest first.
-fn show(a: Amount) {
+fn show(rt: &impl Print, a: Amount) -> io::Result<()> {
     let mut s = [0u8; 16];
     amount::write_amount(&mut s, 0, a);
-    io::print_hex(1, fields::get64(&s, 8), 16);
-    io::print_hex(1, fields::get64(&s, 0), 16);
-    io::write_all(1, b"\n");
+    print!(rt; "{:016x}", fields::get64(&s, 8))?;
+    print!(rt; "{:016x}", fields::get64(&s, 0))?;
+    println!(rt)
 }
 
-fn show_sum(s: Sum) {
+fn show_sum(rt: &impl Print, s: Sum) -> io::Result<()> {
     match s {
-        Sum::Value(v) => show(v),
-        Sum::Overflow => overflow(),
+        Sum::Value(v) => show(rt, v),
+        Sum::Overflow => overflow(rt),
     }
 }
 
-fn overflow() {
-    io::write_all(1, b"overflow\n");
+fn overflow(rt: &impl Print) -> io::Result<()> {
+    println!(rt; "overflow")
 }
 
-fn sums() {
-    show_sum(amount::checked_add(most(), amount::zero()));
-    show_sum(amount::checked_add(most(), amount::from_u64(1)));
-    show_sum(amount::checked_add(least(), minus_one()));
-    show_sum(amount::checked_add(least(), most()));
-    show_sum(amount::checked_add(minus_one(), amount::from_u64(1)));
-    show_sum(amount::checked_add(amount::from_u64(18446744073709551615), amount::from_u64(1)));
-    show_sum(amount::checked_add(above_least(), minus_one()));
-    show_sum(amount::checked_add(before_greatest_high(), amount::from_u64(1)));
+fn sums(rt: &impl Print) -> io::Result<()> {
+    show_sum(rt, amount::checked_add(most(), amount::zero()))?;
+    show_sum(rt, amount::checked_add(most(), amount::from_u64(1)))?;
+    show_sum(rt, amount::checked_add(least(), minus_one()))?;
+    show_sum(rt, amount::checked_add(least(), most()))?;
+    show_sum(rt, amount::checked_add(minus_one(), amount::from_u64(1)))?;
+    show_sum(
+        rt,
+        amount::checked_add(amount::from_u64(18446744073709551615), amount::from_u64(1)),
+    )?;
+    show_sum(rt, amount::checked_add(above_least(), minus_one()))?;
+    show_sum(
+        rt,
+        amount::checked_add(before_greatest_high(), amount::from_u64(1)),
+    )
 }
 
-fn differences() {
-    show_sum(amount::checked_sub(least(), amount::from_u64(1)));
-    show_sum(amount::checked_sub(most(), minus_one()));
-    show_sum(amount::checked_sub(amount::zero(), amount::from_u64(1)));
-    show_sum(amount::checked_sub(most(), most()));
-    show_sum(amount::checked_sub(minus_one(), least()));
-    show_sum(amount::checked_sub(amount::zero(), least()));
+fn differences(rt: &impl Print) -> io::Result<()> {
+    show_sum(rt, amount::checked_sub(least(), amount::from_u64(1)))?;
+    show_sum(rt, amount::checked_sub(most(), minus_one()))?;
+    show_sum(rt, amount::checked_sub(amount::zero(), amount::from_u64(1)))?;
+    show_sum(rt, amount::checked_sub(most(), most()))?;
+    show_sum(rt, amount::checked_sub(minus_one(), least()))?;
+    show_sum(rt, amount::checked_sub(amount::zero(), least()))
 }
 
-fn negations() {
-    show_sum(amount::checked_neg(least()));
-    show_sum(amount::checked_neg(most()));
-    show_sum(amount::checked_neg(minus_one()));
-    show_sum(amount::checked_neg(amount::zero()));
-    show_sum(amount::checked_neg(above_least()));
-    show_sum(amount::checked_neg(Amount { hi: 1, lo: 0 }));
+fn negations(rt: &impl Print) -> io::Result<()> {
+    show_sum(rt, amount::checked_neg(least()))?;
+    show_sum(rt, amount::checked_neg(most()))?;
+    show_sum(rt, amount::checked_neg(minus_one()))?;
+    show_sum(rt, amount::checked_neg(amount::zero()))?;
+    show_sum(rt, amount::checked_neg(above_least()))?;
+    show_sum(rt, amount::checked_neg(Amount { hi: 1, lo: 0 }))
 }
 
-fn orders() {
-    truth(amount::less(least(), most()));
-    truth(amount::less(most(), least()));
-    truth(amount::less(minus_one(), amount::zero()));
-    truth(amount::less(amount::zero(), minus_one()));
-    truth(amount::less(most(), most()));
-    truth(amount::less(amount::zero(), amount::from_u64(1)));
+fn orders(rt: &impl Print) -> io::Result<()> {
+    truth(rt, amount::less(least(), most()))?;
+    truth(rt, amount::less(most(), least()))?;
+    truth(rt, amount::less(minus_one(), amount::zero()))?;
+    truth(rt, amount::less(amount::zero(), minus_one()))?;
+    truth(rt, amount::less(most(), most()))?;
+    truth(rt, amount::less(amount::zero(), amount::from_u64(1)))
 }
 
-fn signs() {
-    io::print_decimal(1, amount::sign(least()) as u64);
-    io::print_decimal(1, amount::sign(minus_one()) as u64);
-    io::print_decimal(1, amount::sign(amount::zero()) as u64);
-    io::print_decimal(1, amount::sign(amount::from_u64(1)) as u64);
-    io::print_decimal(1, amount::sign(most()) as u64);
-    io::write_all(1, b"\n");
+fn signs(rt: &impl Print) -> io::Result<()> {
+    print!(rt; "{}", amount::sign(least()) as u64)?;
+    print!(rt; "{}", amount::sign(minus_one()) as u64)?;
+    print!(rt; "{}", amount::sign(amount::zero()) as u64)?;
+    print!(rt; "{}", amount::sign(amount::from_u64(1)) as u64)?;
+    print!(rt; "{}", amount::sign(most()) as u64)?;
+    println!(rt)
 }
 
 // Bytes that are read are the bytes that were written.
-fn bytes() {
+fn bytes(rt: &impl Print) -> io::Result<()> {
     let mut s = [255u8; 32];
     amount::write_amount(&mut s, 8, least());
-    show(amount::read_amount(&s, 8));
-    show(amount::read_amount(&s, 0));
-    show(amount::read_amount(&s, 16));
+    show(rt, amount::read_amount(&s, 8))?;
+    show(rt, amount::read_amount(&s, 0))?;
+    show(rt, amount::read_amount(&s, 16))
 }
 
-fn main() {
-    sums();
-    differences();
-    negations();
-    orders();
-    signs();
-    bytes();
+fn main(rt: HostRuntime) -> io::Result<()> {
+    sums(&rt)?;
+    differences(&rt)?;
+    negations(&rt)?;
+    orders(&rt)?;
+    signs(&rt)?;
+    bytes(&rt)
 }

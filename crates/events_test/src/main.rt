@@ -5,19 +5,21 @@ ghost use Rattle.std.specs.Prelude.{◌≡◌, ◌+◌, ◌<◌, ◌≤◌, leng
 
 use amount::Amount;
 use events::Event;
+use std::io;
 
 fn wide(x: u8) -> u64 {
     x as u64
 }
 
-fn print_bytes(s: &[u8], at: usize, n: usize)
+fn print_bytes(rt: &impl Print, s: &[u8], at: usize, n: usize) -> io::Result<()>
     requires { at + n ≤ length s.now }
 {
     let mut i: usize = 0;
     while i < n {
-        io::print_hex(1, wide(s[at + i]), 2);
+        print!(rt; "{:02x}", wide(s[at + i]))?;
         i += 1;
     }
+    Ok(())
 }
 
 fn rest_is_zero(s: &[u8], i: usize) -> bool
@@ -30,17 +32,17 @@ fn rest_is_zero(s: &[u8], i: usize) -> bool
     false
 }
 
-fn show(i: usize, e: Event)
+fn show(rt: &impl Print, i: usize, e: Event) -> io::Result<()>
     requires { i < 16 }
 {
     let mut buffer = [255u8; 896];
     events::clear_events(&mut buffer);
     events::put_event(&mut buffer, i, e);
-    print_bytes(&buffer, 56 * i, 56);
+    print_bytes(rt, &buffer, 56 * i, 56)?;
     if rest_is_zero(&buffer, i) {
-        io::write_all(1, b" rest zero\n");
+        println!(rt; " rest zero")
     } else {
-        io::write_all(1, b" rest not zero\n");
+        println!(rt; " rest not zero")
     }
 }
 
@@ -52,58 +54,67 @@ fn debt(x: u64) -> Amount {
     Amount { hi: -1, lo: x }
 }
 
-fn deposits() {
-    show(0, events::initialized(2, 48, money(1000)));
-    show(1, events::deposited(3, money(258), money(65536)));
-    show(2, events::token_deposited(4, money(10), money(9), money(1)));
+fn deposits(rt: &impl Print) -> io::Result<()> {
+    show(rt, 0, events::initialized(2, 48, money(1000)))?;
+    show(rt, 1, events::deposited(3, money(258), money(65536)))?;
     show(
+        rt,
+        2,
+        events::token_deposited(4, money(10), money(9), money(1)),
+    )?;
+    show(
+        rt,
         3,
         events::withdrawn(2, 5, money(40), debt(18446744073709551615), true),
-    );
-    show(4, events::withdrawn(2, 5, money(40), money(60), false));
+    )?;
+    show(rt, 4, events::withdrawn(2, 5, money(40), money(60), false))
 }
 
-fn settings() {
-    show(5, events::limit_set(2, money(1000), money(2000)));
+fn settings(rt: &impl Print) -> io::Result<()> {
+    show(rt, 5, events::limit_set(2, money(1000), money(2000)))?;
     show(
+        rt,
         6,
         events::operator_withdraw_limit_set(2, money(0), money(50)),
-    );
-    show(7, events::operator_set(2, 3));
-    show(8, events::operator_revoked(2));
-    show(9, events::paused(2, 18446744073709551615));
-    show(10, events::unpaused(2, 604800));
+    )?;
+    show(rt, 7, events::operator_set(2, 3))?;
+    show(rt, 8, events::operator_revoked(2))?;
+    show(rt, 9, events::paused(2, 18446744073709551615))?;
+    show(rt, 10, events::unpaused(2, 604800))
 }
 
-fn owners() {
-    show(11, events::owner_proposed(2, 6));
-    show(12, events::owner_accepted(6, 2));
-    show(13, events::owner_proposal_ttl_set(6, 604800, 1));
+fn owners(rt: &impl Print) -> io::Result<()> {
+    show(rt, 11, events::owner_proposed(2, 6))?;
+    show(rt, 12, events::owner_accepted(6, 2))?;
+    show(rt, 13, events::owner_proposal_ttl_set(6, 604800, 1))
 }
 
-fn others() {
-    show(14, events::emergency_migration_initiated(2, 7, 172800));
-    show(15, events::emergency_migration_executed(2, 7, money(100)));
-    show(0, events::emergency_migration_cancelled(2));
-    show(1, events::vault_deposit_failed(3, 48, money(500)));
-    show(2, events::token_approval_changed(49, true));
-    show(3, events::token_approval_changed(49, false));
+fn others(rt: &impl Print) -> io::Result<()> {
+    show(rt, 14, events::emergency_migration_initiated(2, 7, 172800))?;
+    show(
+        rt,
+        15,
+        events::emergency_migration_executed(2, 7, money(100)),
+    )?;
+    show(rt, 0, events::emergency_migration_cancelled(2))?;
+    show(rt, 1, events::vault_deposit_failed(3, 48, money(500)))?;
+    show(rt, 2, events::token_approval_changed(49, true))?;
+    show(rt, 3, events::token_approval_changed(49, false))
 }
 
-fn check_length(n: u8) {
-    io::print_decimal(1, n as u64);
-    io::write_all(1, b"\n");
+fn check_length(rt: &impl Print, n: u8) -> io::Result<()> {
+    println!(rt; "{n}")
 }
 
-fn main() {
-    deposits();
-    settings();
-    owners();
-    others();
+fn main(rt: HostRuntime) -> io::Result<()> {
+    deposits(&rt)?;
+    settings(&rt)?;
+    owners(&rt)?;
+    others(&rt)?;
     let whole = [0u8; 896];
-    check_length(events::buffer_check(&whole));
+    check_length(&rt, events::buffer_check(&whole))?;
     let short = [0u8; 895];
-    check_length(events::buffer_check(&short));
+    check_length(&rt, events::buffer_check(&short))?;
     let long = [0u8; 897];
-    check_length(events::buffer_check(&long));
+    check_length(&rt, events::buffer_check(&long))
 }

@@ -4,17 +4,18 @@
 ghost use Rattle.std.specs.Prelude.{◌≡◌, ◌<◌, length};
 
 use amount::Amount;
+use std::io;
 
-fn show(good: bool) {
+fn show(rt: &impl Print, good: bool) -> io::Result<()> {
     if good {
-        io::write_all(1, b"1 ");
+        print!(rt; "1 ")
     } else {
-        io::write_all(1, b"0 ");
+        print!(rt; "0 ")
     }
 }
 
-fn end() {
-    io::write_all(1, b"\n");
+fn end(rt: &impl Print) -> io::Result<()> {
+    println!(rt)
 }
 
 fn value(lo: u64) -> Amount {
@@ -64,114 +65,115 @@ fn fill_tokens(image: &mut [u8])
 }
 
 // The image with one byte changed; the byte is put back.
-fn try_byte(image: &mut [u8], at: usize, byte: u8)
+fn try_byte(rt: &impl Print, image: &mut [u8], at: usize, byte: u8) -> io::Result<()>
     requires { (length image.old ≡ 36832) × (at < 36832) }
 {
     let old = fields::get8(image, at);
     fields::put8(image, at, byte);
-    show(image::good_image(image));
+    let shown = show(rt, image::good_image(image));
     fields::put8(image, at, old);
+    shown
 }
 
 // Flags and addresses; limits, pending owner and migration; any approved set is good.
-fn head(image: &mut [u8])
+fn head(rt: &impl Print, image: &mut [u8]) -> io::Result<()>
     requires { length image.old ≡ 36832 }
 {
-    try_byte(image, 0, 77);
-    try_byte(image, 2, 64);
-    try_byte(image, 3, 49);
-    try_byte(image, 5, 1);
-    try_byte(image, 7, 1);
+    try_byte(rt, image, 0, 77)?;
+    try_byte(rt, image, 2, 64)?;
+    try_byte(rt, image, 3, 49)?;
+    try_byte(rt, image, 5, 1)?;
+    try_byte(rt, image, 7, 1)
 }
 
-fn limits(image: &mut [u8])
+fn limits(rt: &impl Print, image: &mut [u8]) -> io::Result<()>
     requires { length image.old ≡ 36832 }
 {
-    try_byte(image, 23, 128);
-    try_byte(image, 24, 0);
-    try_byte(image, 40, 1);
-    try_byte(image, 64, 1);
-    try_byte(image, 72, 1);
-    end();
+    try_byte(rt, image, 23, 128)?;
+    try_byte(rt, image, 24, 0)?;
+    try_byte(rt, image, 40, 1)?;
+    try_byte(rt, image, 64, 1)?;
+    try_byte(rt, image, 72, 1)?;
+    end(rt)
 }
 
 // Capped set, reserved bytes, a cap; snapshots (a negative one is good), keys.
-fn caps(image: &mut [u8])
+fn caps(rt: &impl Print, image: &mut [u8]) -> io::Result<()>
     requires { length image.old ≡ 36832 }
 {
-    try_byte(image, 80, 32);
-    try_byte(image, 90, 1);
-    try_byte(image, 160, 0);
-    try_byte(image, 1120, 2);
+    try_byte(rt, image, 80, 32)?;
+    try_byte(rt, image, 90, 1)?;
+    try_byte(rt, image, 160, 0)?;
+    try_byte(rt, image, 1120, 2)
 }
 
-fn snapshots(image: &mut [u8])
+fn snapshots(rt: &impl Print, image: &mut [u8]) -> io::Result<()>
     requires { length image.old ≡ 36832 }
 {
-    try_byte(image, 1143, 128);
-    try_byte(image, 1144, 1);
-    try_byte(image, 1505, 5);
-    try_byte(image, 1508, 1);
-    end();
+    try_byte(rt, image, 1143, 128)?;
+    try_byte(rt, image, 1144, 1)?;
+    try_byte(rt, image, 1505, 5)?;
+    try_byte(rt, image, 1508, 1)?;
+    end(rt)
 }
 
 // Kinds and tolls; holdings and credits of a present token and of an absent one.
-fn tokens(image: &mut [u8])
+fn tokens(rt: &impl Print, image: &mut [u8]) -> io::Result<()>
     requires { length image.old ≡ 36832 }
 {
-    try_byte(image, 3680, 3);
-    try_byte(image, 3681, 1);
-    try_byte(image, 3703, 128);
-    try_byte(image, 3712, 1);
+    try_byte(rt, image, 3680, 3)?;
+    try_byte(rt, image, 3681, 1)?;
+    try_byte(rt, image, 3703, 128)?;
+    try_byte(rt, image, 3712, 1)
 }
 
-fn holdings(image: &mut [u8])
+fn holdings(rt: &impl Print, image: &mut [u8]) -> io::Result<()>
     requires { length image.old ≡ 36832 }
 {
-    try_byte(image, 4095, 128);
-    try_byte(image, 20511, 128);
-    try_byte(image, 5088, 1);
-    try_byte(image, 21472, 1);
-    try_byte(image, 36831, 1);
-    try_byte(image, 3680, 2);
-    end();
+    try_byte(rt, image, 4095, 128)?;
+    try_byte(rt, image, 20511, 128)?;
+    try_byte(rt, image, 5088, 1)?;
+    try_byte(rt, image, 21472, 1)?;
+    try_byte(rt, image, 36831, 1)?;
+    try_byte(rt, image, 3680, 2)?;
+    end(rt)
 }
 
 // An image of zeros, and a part of it.
-fn empty(image: &mut [u8])
+fn empty(rt: &impl Print, image: &mut [u8]) -> io::Result<()>
     requires { length image.old ≡ 36832 }
 {
-    show(image::good_image(image));
-    show(image::good_image(&image[0..36831]));
-    show(image::good_image(&image[0..0]));
-    try_byte(image, 72, 1);
-    end();
+    show(rt, image::good_image(image))?;
+    show(rt, image::good_image(&image[0..36831]))?;
+    show(rt, image::good_image(&image[0..0]))?;
+    try_byte(rt, image, 72, 1)?;
+    end(rt)
 }
 
-fn fill(image: &mut [u8])
+fn fill(rt: &impl Print, image: &mut [u8]) -> io::Result<()>
     requires { length image.old ≡ 36832 }
 {
     fill_head(image);
     fill_middle(image);
     fill_tokens(image);
-    show(image::good_image(image));
-    end();
+    show(rt, image::good_image(image))?;
+    end(rt)
 }
 
-fn damage(image: &mut [u8])
+fn damage(rt: &impl Print, image: &mut [u8]) -> io::Result<()>
     requires { length image.old ≡ 36832 }
 {
-    head(image);
-    limits(image);
-    caps(image);
-    snapshots(image);
-    tokens(image);
-    holdings(image);
+    head(rt, image)?;
+    limits(rt, image)?;
+    caps(rt, image)?;
+    snapshots(rt, image)?;
+    tokens(rt, image)?;
+    holdings(rt, image)
 }
 
-fn main() {
+fn main(rt: HostRuntime) -> io::Result<()> {
     let mut image = [0u8; 36832];
-    empty(&mut image);
-    fill(&mut image);
-    damage(&mut image);
+    empty(&rt, &mut image)?;
+    fill(&rt, &mut image)?;
+    damage(&rt, &mut image)
 }

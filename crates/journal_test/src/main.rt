@@ -1,23 +1,23 @@
 // The undo journal over an image of four cells: the number that each call answers, and the bytes of image and journal, as decimals.
 #![tactic(auto)]
 
+use std::io;
+
 fn wide(x: u8) -> u64 {
     x as u64
 }
 
-fn print_number(n: u8) {
-    io::print_decimal(1, wide(n));
-    io::write_all(1, &[b'\n']);
+fn print_number(rt: &impl Print, n: u8) -> io::Result<()> {
+    println!(rt; "{}", wide(n))
 }
 
-fn print_bytes(s: &[u8]) {
+fn print_bytes(rt: &impl Print, s: &[u8]) -> io::Result<()> {
     let mut i = 0;
     while i < s.len() {
-        io::print_decimal(1, wide(s[i]));
-        io::write_all(1, &[b' ']);
+        print!(rt; "{} ", wide(s[i]))?;
         i += 1;
     }
-    io::write_all(1, &[b'\n']);
+    println!(rt)
 }
 
 fn begin(journal: &mut [u8]) -> u8 {
@@ -82,50 +82,50 @@ fn store(image: &mut [u8], journal: &mut [u8], at: usize, x: u8) -> u8 {
 }
 
 // Nothing is open: 35. Open already: 36. No call to undo: 37.
-fn refusals(image: &mut [u8], journal: &mut [u8]) {
-    print_number(undo(image, journal));
-    print_number(rollback(image, journal));
-    print_number(commit(journal));
-    print_number(begin(journal));
-    print_number(begin(journal));
-    print_number(undo(image, journal));
+fn refusals(rt: &impl Print, image: &mut [u8], journal: &mut [u8]) -> io::Result<()> {
+    print_number(rt, undo(image, journal))?;
+    print_number(rt, rollback(image, journal))?;
+    print_number(rt, commit(journal))?;
+    print_number(rt, begin(journal))?;
+    print_number(rt, begin(journal))?;
+    print_number(rt, undo(image, journal))
 }
 
 // Five entries have places, so the third store is 34, with one entry free.
-fn fill(image: &mut [u8], journal: &mut [u8]) {
-    print_number(store(image, journal, 0, 5));
-    print_number(store(image, journal, 16, 6));
-    print_number(store(image, journal, 1, 7));
-    print_bytes(image);
-    print_bytes(journal);
+fn fill(rt: &impl Print, image: &mut [u8], journal: &mut [u8]) -> io::Result<()> {
+    print_number(rt, store(image, journal, 0, 5))?;
+    print_number(rt, store(image, journal, 16, 6))?;
+    print_number(rt, store(image, journal, 1, 7))?;
+    print_bytes(rt, image)?;
+    print_bytes(rt, journal)
 }
 
 // Two calls taken back, one after the other.
-fn take_back(image: &mut [u8], journal: &mut [u8]) {
-    print_number(undo(image, journal));
-    print_bytes(image);
-    print_bytes(journal);
-    print_number(undo(image, journal));
-    print_bytes(image);
-    print_bytes(journal);
+fn take_back(rt: &impl Print, image: &mut [u8], journal: &mut [u8]) -> io::Result<()> {
+    print_number(rt, undo(image, journal))?;
+    print_bytes(rt, image)?;
+    print_bytes(rt, journal)?;
+    print_number(rt, undo(image, journal))?;
+    print_bytes(rt, image)?;
+    print_bytes(rt, journal)
 }
 
 // Rollback puts the image back, where two calls changed the same cells.
-fn roll(image: &mut [u8], journal: &mut [u8]) {
-    print_number(store(image, journal, 0, 8));
-    print_number(store(image, journal, 0, 9));
-    print_number(rollback(image, journal));
-    print_bytes(image);
-    print_bytes(journal);
+fn roll(rt: &impl Print, image: &mut [u8], journal: &mut [u8]) -> io::Result<()> {
+    print_number(rt, store(image, journal, 0, 8))?;
+    print_number(rt, store(image, journal, 0, 9))?;
+    print_number(rt, rollback(image, journal))?;
+    print_bytes(rt, image)?;
+    print_bytes(rt, journal)
 }
 
 // Commit keeps it.
-fn close(image: &mut [u8], journal: &mut [u8]) {
-    print_number(begin(journal));
-    print_number(store(image, journal, 32, 10));
-    print_number(commit(journal));
-    print_bytes(image);
-    print_bytes(journal);
+fn close(rt: &impl Print, image: &mut [u8], journal: &mut [u8]) -> io::Result<()> {
+    print_number(rt, begin(journal))?;
+    print_number(rt, store(image, journal, 32, 10))?;
+    print_number(rt, commit(journal))?;
+    print_bytes(rt, image)?;
+    print_bytes(rt, journal)
 }
 
 // A store that changes nothing is a call with no entry.
@@ -138,77 +138,77 @@ fn store_again(image: &mut [u8], journal: &mut [u8], times: usize) {
 }
 
 // A thousand calls are done, and the next is 34.
-fn many(image: &mut [u8], journal: &mut [u8]) {
-    print_number(begin(journal));
+fn many(rt: &impl Print, image: &mut [u8], journal: &mut [u8]) -> io::Result<()> {
+    print_number(rt, begin(journal))?;
     store_again(image, journal, 999);
-    print_number(store(image, journal, 32, 10));
-    print_number(store(image, journal, 32, 10));
-    print_bytes(journal);
-    print_number(undo(image, journal));
-    print_bytes(journal);
+    print_number(rt, store(image, journal, 32, 10))?;
+    print_number(rt, store(image, journal, 32, 10))?;
+    print_bytes(rt, journal)?;
+    print_number(rt, undo(image, journal))?;
+    print_bytes(rt, journal)
 }
 
 // An open journal with one call of two entries, and one byte of it overwritten: 31, or 36 where it is still good.
-fn damage(at: usize, x: u8) {
+fn damage(rt: &impl Print, at: usize, x: u8) -> io::Result<()> {
     if at >= 144 {
-        return;
+        return Ok(());
     }
     let mut image = [0u8; 64];
     let mut journal = [0u8; 144];
     begin(&mut journal);
     store(&mut image, &mut journal, 0, 5);
     fields::put8(&mut journal, at, x);
-    print_number(begin(&mut journal));
+    print_number(rt, begin(&mut journal))
 }
 
-fn damaged_heads() {
-    damage(0, 2);
-    damage(0, 0);
-    damage(1, 1);
-    damage(2, 0);
-    damage(2, 2);
-    damage(3, 4);
-    damage(4, 1);
-    damage(4, 6);
-    damage(6, 1);
-    damage(23, 1);
+fn damaged_heads(rt: &impl Print) -> io::Result<()> {
+    damage(rt, 0, 2)?;
+    damage(rt, 0, 0)?;
+    damage(rt, 1, 1)?;
+    damage(rt, 2, 0)?;
+    damage(rt, 2, 2)?;
+    damage(rt, 3, 4)?;
+    damage(rt, 4, 1)?;
+    damage(rt, 4, 6)?;
+    damage(rt, 6, 1)?;
+    damage(rt, 23, 1)
 }
 
-fn damaged_entries() {
-    damage(24, 1);
-    damage(24, 3);
-    damage(48, 4);
-    damage(26, 0);
-    damage(26, 2);
-    damage(50, 2);
-    damage(28, 1);
-    damage(32, 9);
-    damage(72, 1);
-    damage(143, 1);
+fn damaged_entries(rt: &impl Print) -> io::Result<()> {
+    damage(rt, 24, 1)?;
+    damage(rt, 24, 3)?;
+    damage(rt, 48, 4)?;
+    damage(rt, 26, 0)?;
+    damage(rt, 26, 2)?;
+    damage(rt, 50, 2)?;
+    damage(rt, 28, 1)?;
+    damage(rt, 32, 9)?;
+    damage(rt, 72, 1)?;
+    damage(rt, 143, 1)
 }
 
 // Lengths that no journal has, and an image that is too short.
-fn lengths() {
+fn lengths(rt: &impl Print) -> io::Result<()> {
     let mut image = [0u8; 48];
     let mut journal = [0u8; 48];
-    print_number(undo(&mut image, &mut journal));
-    print_number(begin(&mut journal));
+    print_number(rt, undo(&mut image, &mut journal))?;
+    print_number(rt, begin(&mut journal))?;
     let mut none = [0u8; 24];
-    print_number(begin(&mut none));
+    print_number(rt, begin(&mut none))?;
     let mut odd = [0u8; 95];
-    print_number(begin(&mut odd));
+    print_number(rt, begin(&mut odd))
 }
 
-fn main() {
+fn main(rt: HostRuntime) -> io::Result<()> {
     let mut image = [0u8; 64];
     let mut journal = [0u8; 144];
-    refusals(&mut image, &mut journal);
-    fill(&mut image, &mut journal);
-    take_back(&mut image, &mut journal);
-    roll(&mut image, &mut journal);
-    close(&mut image, &mut journal);
-    many(&mut image, &mut journal);
-    damaged_heads();
-    damaged_entries();
-    lengths();
+    refusals(&rt, &mut image, &mut journal)?;
+    fill(&rt, &mut image, &mut journal)?;
+    take_back(&rt, &mut image, &mut journal)?;
+    roll(&rt, &mut image, &mut journal)?;
+    close(&rt, &mut image, &mut journal)?;
+    many(&rt, &mut image, &mut journal)?;
+    damaged_heads(&rt)?;
+    damaged_entries(&rt)?;
+    lengths(&rt)
 }

@@ -4,21 +4,21 @@
 ghost use Rattle.std.specs.Prelude.{◌≡◌, ◌<◌, ◌≤◌, length};
 
 use amount::Amount;
+use std::io;
 
-fn number(n: u64) {
-    io::print_decimal(1, n);
-    io::write_all(1, b" ");
+fn number(rt: &impl Print, n: u64) -> io::Result<()> {
+    print!(rt; "{n} ")
 }
 
-fn end() {
-    io::write_all(1, b"\n");
+fn end(rt: &impl Print) -> io::Result<()> {
+    println!(rt)
 }
 
-fn show(image: &[u8], t: usize, a: usize)
+fn show(rt: &impl Print, image: &[u8], t: usize, a: usize) -> io::Result<()>
     requires { (length image.now ≡ 36832) × (48 ≤ t) × (t < 64) × (a < 64) }
 {
     let held = token::balance(image, t, a);
-    number(held.lo);
+    number(rt, held.lo)
 }
 
 // The transfer's number; 30 where the image is not good.
@@ -31,23 +31,30 @@ fn moved(image: &mut [u8], t: usize, from: usize, to: usize, n: u64) -> u8
     token::transfer(image, t, from, to, amount::from_u64(n))
 }
 
-fn try_transfer(image: &mut [u8], t: usize, from: usize, to: usize, n: u64)
+fn try_transfer(
+    rt: &impl Print,
+    image: &mut [u8],
+    t: usize,
+    from: usize,
+    to: usize,
+    n: u64,
+) -> io::Result<()>
     requires { (length image.old ≡ 36832) × (48 ≤ t) × (t < 64) × (from < 64) × (to < 64) }
 {
     let k = moved(image, t, from, to, n);
-    number(k as u64);
-    show(image, t, from);
-    show(image, t, to);
-    end();
+    number(rt, k as u64)?;
+    show(rt, image, t, from)?;
+    show(rt, image, t, to)?;
+    end(rt)
 }
 
 // An address that is no token's.
-fn try_stranger(image: &mut [u8], t: usize)
+fn try_stranger(rt: &impl Print, image: &mut [u8], t: usize) -> io::Result<()>
     requires { length image.old ≡ 36832 }
 {
     let k = moved(image, t, 2, 1, 1);
-    number(k as u64);
-    end();
+    number(rt, k as u64)?;
+    end(rt)
 }
 
 fn fill(image: &mut [u8])
@@ -62,19 +69,19 @@ fn fill(image: &mut [u8])
 }
 
 // Done, short of the amount, to itself, a toll above the amount, frozen, absent.
-fn plain(image: &mut [u8])
+fn plain(rt: &impl Print, image: &mut [u8]) -> io::Result<()>
     requires { length image.old ≡ 36832 }
 {
-    try_transfer(image, 48, 2, 1, 50);
-    try_transfer(image, 48, 2, 1, 51);
-    try_transfer(image, 48, 2, 2, 20);
-    try_transfer(image, 48, 2, 4, 2);
-    try_transfer(image, 49, 2, 1, 1);
-    try_transfer(image, 50, 2, 1, 1);
+    try_transfer(rt, image, 48, 2, 1, 50)?;
+    try_transfer(rt, image, 48, 2, 1, 51)?;
+    try_transfer(rt, image, 48, 2, 2, 20)?;
+    try_transfer(rt, image, 48, 2, 4, 2)?;
+    try_transfer(rt, image, 49, 2, 1, 1)?;
+    try_transfer(rt, image, 50, 2, 1, 1)
 }
 
 // A receiver at 2^127 - 1: past it, and not, since the toll takes all.
-fn at_the_end(image: &mut [u8])
+fn at_the_end(rt: &impl Print, image: &mut [u8]) -> io::Result<()>
     requires { length image.old ≡ 36832 }
 {
     amount::write_amount(
@@ -85,15 +92,15 @@ fn at_the_end(image: &mut [u8])
             lo: 18446744073709551615,
         },
     );
-    try_transfer(image, 48, 2, 5, 4);
-    try_transfer(image, 48, 2, 5, 3);
+    try_transfer(rt, image, 48, 2, 5, 4)?;
+    try_transfer(rt, image, 48, 2, 5, 3)
 }
 
-fn main() {
+fn main(rt: HostRuntime) -> io::Result<()> {
     let mut image = [0u8; 36832];
     fill(&mut image);
-    plain(&mut image);
-    try_stranger(&mut image, 47);
-    try_stranger(&mut image, 64);
-    at_the_end(&mut image);
+    plain(&rt, &mut image)?;
+    try_stranger(&rt, &mut image, 47)?;
+    try_stranger(&rt, &mut image, 64)?;
+    at_the_end(&rt, &mut image)
 }
