@@ -1,6 +1,6 @@
 // The program on no input at all.
 #![tactic(auto)]
 
-fn main() {
-    vault_program::main_loop();
+fn main(rt: HostRuntime) {
+    vault_program::main_loop(&mut rt.stdin(), &mut rt.stdout());
 }

@@ -1,6 +1,6 @@
 // The program of the token vault: reads an image, then records, and prints a line a record.
 #![tactic(auto)]
 
-fn main() {
-    vault_program::main_loop();
+fn main(rt: HostRuntime) {
+    vault_program::main_loop(&mut rt.stdin(), &mut rt.stdout());
 }

@@ -1,6 +1,6 @@
 // The program on an image that is a byte short.
 #![tactic(auto)]
 
-fn main() {
-    vault_program::main_loop();
+fn main(rt: HostRuntime) {
+    vault_program::main_loop(&mut rt.stdin(), &mut rt.stdout());
 }

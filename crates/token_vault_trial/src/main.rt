@@ -7,7 +7,9 @@ ghost use Rattle.trial_records.specs.Trial.{reached_from};
 ghost use Rattle.token_vault_trial.specs.Arguments.{malformed, is_digit, digits_after, read_decimal, argument_fault, fault_text, fault_line};
 ghost use Rattle.token_vault_trial.specs.Run.{reading_of, IsPiece, RunIs};
 
-use libc::{STDERR_FILENO, STDOUT_FILENO};
+use std::env::FillError;
+use std::io::Write;
+use std::rt::Env;
 
 // ---- the arguments
 // A number, or none.
@@ -88,13 +90,23 @@ fn read_decimal(text: &[u8]) -> Decimal
 }
 
 // Of more than 20 bytes there is no number below 2^64.
-fn read_argument(i: usize) -> Decimal {
+fn read_argument<E: Env>(env: &E, i: usize) -> Decimal {
     let mut text = [0u8; 20];
-    let n = os::arg(i, &mut text);
-    if os::errno() != 0 {
-        return none();
+    match env.arg(i, &mut text) {
+        Ok(n) => read_decimal(&text[..n]),
+        Err(_) => none(),
     }
-    read_decimal(&text[..n])
+}
+
+// How many arguments there are, the program's own name among them. One that does not fit the buffer is one too.
+fn count_arguments<E: Env>(env: &E) -> usize {
+    let mut text = [0u8; 20];
+    for i in 0..usize::MAX {
+        if let Err(FillError::NotPresent) = env.arg(i, &mut text) {
+            return i;
+        }
+    }
+    usize::MAX
 }
 
 fn argument_fault(words: usize, start: Decimal, first: Decimal, count: Decimal) -> u8
@@ -129,10 +141,17 @@ fn argument_fault(words: usize, start: Decimal, first: Decimal, count: Decimal) 
 
 // ---- the records
 // Every byte of standard output goes through here: the n records that follow the first `made` of those that START and FIRST give.
-fn write_piece(piece: &[u8], start: u64, first: u64, made: u64, n: u64) -> bool
+fn write_piece<O: Write>(
+    output: &mut O,
+    piece: &[u8],
+    start: u64,
+    first: u64,
+    made: u64,
+    n: u64,
+) -> bool
     requires { IsPiece start first made n piece.now }
 {
-    io::write_all(STDOUT_FILENO, piece)
+    streams::write_all(output, piece)
 }
 
 #[derive(Clone, Copy)]
@@ -153,14 +172,22 @@ fn piece_size(left: u64) -> u64
 }
 
 // `last` is the number that the first `made` records reached, and `n` of those that are left fit into the buffer.
-fn make_piece(buffer: &mut [u8], start: u64, first: u64, made: u64, last: u64, n: u64) -> Piece
+fn make_piece<O: Write>(
+    output: &mut O,
+    buffer: &mut [u8],
+    start: u64,
+    first: u64,
+    made: u64,
+    last: u64,
+    n: u64,
+) -> Piece
     requires { (length buffer.old ≡ 57344) × (n ≤ 128) × (last ≡ reached_from start made) × (1 ≤ first) × (first + made + n ≤ 2 ^ 32) }
     ensures { (result.n ≡ n) × (result.reached ≡ reached_from start (made + n)) }
 {
     let end = 448 * n as usize;
     let mut reached = 0u64;
     trial_records::trial_records(last, first + made, &mut buffer[..end], &mut reached);
-    let is_written = write_piece(&buffer[..end], start, first, made, n);
+    let is_written = write_piece(output, &buffer[..end], start, first, made, n);
     Piece {
         n,
         reached,
@@ -168,7 +195,8 @@ fn make_piece(buffer: &mut [u8], start: u64, first: u64, made: u64, last: u64, n
     }
 }
 
-fn next_piece(
+fn next_piece<O: Write>(
+    output: &mut O,
     buffer: &mut [u8; 57344],
     start: u64,
     first: u64,
@@ -180,7 +208,7 @@ fn next_piece(
     ensures { (result.reached ≡ reached_from start (made + result.n)) × (0 < result.n) × (result.n ≤ left) }
 {
     let n = piece_size(left);
-    make_piece(buffer, start, first, made, last, n)
+    make_piece(output, buffer, start, first, made, last, n)
 }
 
 #[derive(Clone, Copy)]
@@ -189,7 +217,7 @@ struct Written {
     is_written: bool,
 }
 
-fn write_records(start: u64, first: u64, count: u64) -> Written
+fn write_records<O: Write>(output: &mut O, start: u64, first: u64, count: u64) -> Written
     requires { (1 ≤ first) × (first + count ≤ 2 ^ 32) }
     ensures { result.is_written ≡ true → result.made ≡ count }
 {
@@ -197,7 +225,7 @@ fn write_records(start: u64, first: u64, count: u64) -> Written
     let mut last = start;
     let mut made = 0u64;
     while made < count {
-        let piece = next_piece(&mut buffer, start, first, made, last, count - made);
+        let piece = next_piece(output, &mut buffer, start, first, made, last, count - made);
         last = piece.reached;
         made += piece.n;
         if !piece.is_written {
@@ -215,43 +243,48 @@ fn write_records(start: u64, first: u64, count: u64) -> Written
 
 // ---- what is wrong with the arguments
 // Every byte of standard error goes through here, and all of them are the line of a fault.
-fn write_fault_line(line: &[u8], fault: u8) -> bool
+fn write_fault_line<E: Write>(error: &mut E, line: &[u8], fault: u8) -> bool
     requires { (line.now ≡ fault_line fault) × (0 < fault) × (fault ≤ 6) }
 {
-    io::write_all(STDERR_FILENO, line)
+    streams::write_all(error, line)
 }
 
-fn write_sentence(sentence: &[u8], fault: u8) -> bool
+fn write_sentence<E: Write>(error: &mut E, sentence: &[u8], fault: u8) -> bool
     requires { (sentence.now ≡ fault_text fault) × (length sentence.now ≤ 80) × (0 < fault) × (fault ≤ 6) }
 {
     let mut out = [0u8; 128];
     let start = answer_line::write_message(&mut out, 128, b"token_vault_trial: ", sentence);
     let whole = &out[..];
-    write_fault_line(&whole[start..], fault)
+    write_fault_line(error, &whole[start..], fault)
 }
 
-fn write_fault(fault: u8) -> bool
+fn write_fault<E: Write>(error: &mut E, fault: u8) -> bool
     requires { (0 < fault) × (fault ≤ 6) }
 {
     match fault {
         1 => write_sentence(
+            error,
             b"1: three arguments are wanted: START, FIRST and COUNT",
             fault,
         ),
         2 => write_sentence(
+            error,
             b"2: START is not a decimal number from 0 to 18446744073709551615",
             fault,
         ),
         3 => write_sentence(
+            error,
             b"3: FIRST is not a decimal number from 0 to 18446744073709551615",
             fault,
         ),
         4 => write_sentence(
+            error,
             b"4: COUNT is not a decimal number from 0 to 18446744073709551615",
             fault,
         ),
-        5 => write_sentence(b"5: FIRST is 0: record numbers begin at 1", fault),
+        5 => write_sentence(error, b"5: FIRST is 0: record numbers begin at 1", fault),
         _ => write_sentence(
+            error,
             b"6: the last record's number would be above 4294967295",
             fault,
         ),
@@ -266,19 +299,26 @@ struct Ended {
     is_written: bool,
 }
 
-fn run(words: usize, start: Decimal, first: Decimal, count: Decimal) -> Ended
+fn run<O: Write, E: Write>(
+    output: &mut O,
+    error: &mut E,
+    words: usize,
+    start: Decimal,
+    first: Decimal,
+    count: Decimal,
+) -> Ended
     ensures { RunIs (argument_fault words start.is_number first.is_number count.is_number first.number count.number) count.number result.fault result.made result.is_written }
 {
     let fault = argument_fault(words, start, first, count);
     if fault != 0 {
-        let is_written = write_fault(fault);
+        let is_written = write_fault(error, fault);
         return Ended {
             fault,
             made: 0,
             is_written,
         };
     }
-    let written = write_records(start.number, first.number, count.number);
+    let written = write_records(output, start.number, first.number, count.number);
     Ended {
         fault: 0,
         made: written.made,
@@ -286,10 +326,17 @@ fn run(words: usize, start: Decimal, first: Decimal, count: Decimal) -> Ended
     }
 }
 
-fn main() {
-    let words = os::arg_count();
-    let start = read_argument(1);
-    let first = read_argument(2);
-    let count = read_argument(3);
-    run(words, start, first, count);
+fn main(rt: HostRuntime) {
+    let words = count_arguments(&rt);
+    let start = read_argument(&rt, 1);
+    let first = read_argument(&rt, 2);
+    let count = read_argument(&rt, 3);
+    run(
+        &mut rt.stdout(),
+        &mut rt.stderr(),
+        words,
+        start,
+        first,
+        count,
+    );
 }

@@ -9,20 +9,20 @@ ghost use Rattle.vault_vectors.specs.Vectors.{PrintsStep};
 ghost use Rattle.token_vault_vectors.specs.Faults.{head_fault, state_fault, has_needless, call_head_fault, record_fault, call_fault, fault_text, fault_line};
 ghost use Rattle.token_vault_vectors.specs.Replay.{IsStepLine, request_of, AnswersCall, TakesCalls, TakesState, RunsList, TakesList, WithJournal, NextList, IsFault, ListsEnd};
 
-use libc::{STDERR_FILENO, STDIN_FILENO, STDOUT_FILENO};
+use std::io::{Read, Write};
 
 // Every byte of standard output goes through here, and all of them are lines of steps.
-fn write_step_line(line: &[u8]) -> bool
+fn write_step_line<O: Write>(output: &mut O, line: &[u8]) -> bool
     requires { IsStepLine line.now }
 {
-    io::write_all(STDOUT_FILENO, line)
+    streams::write_all(output, line)
 }
 
-fn write_from(out: &[u8; 512], start: usize) -> bool
+fn write_from<O: Write>(output: &mut O, out: &[u8; 512], start: usize) -> bool
     requires { IsStepLine (drop start out.now) × (start ≤ 512) }
 {
     let whole = &out[..];
-    write_step_line(&whole[start..])
+    write_step_line(output, &whole[start..])
 }
 
 // Where the line begins in `out`, and whether it was written.
@@ -55,7 +55,8 @@ fn answer_call(
     vault_vectors::answer_transaction(image, journal, kind, out)
 }
 
-fn run_call(
+fn run_call<O: Write>(
+    output: &mut O,
     image: &mut [u8],
     journal: &mut [u8],
     head: &[u8; 8],
@@ -67,7 +68,7 @@ fn run_call(
     ensures { PrintsStep (request_step (vault image.old journal.old) (request_of head.now «record».now)) (drop result.start out.new) image.new journal.new }
 {
     let start = answer_call(image, journal, head, record, events, out);
-    let is_written = write_from(out, start);
+    let is_written = write_from(output, out, start);
     PrintedLine { start, is_written }
 }
 
@@ -141,7 +142,8 @@ struct AnsweredCall {
 }
 
 // The record stands at the start of `record`; `events` is as long as an event buffer may be.
-fn fit_call(
+fn fit_call<O: Write>(
+    output: &mut O,
     image: &mut [u8],
     journal: &mut [u8],
     head: &[u8; 8],
@@ -164,7 +166,15 @@ fn fit_call(
     }
     let n = read.record_read;
     let m = fields::get16(head, 4) as usize;
-    let line = run_call(image, journal, head, &record[..n], &mut events[..m], out);
+    let line = run_call(
+        output,
+        image,
+        journal,
+        head,
+        &record[..n],
+        &mut events[..m],
+        out,
+    );
     AnsweredCall {
         read,
         fault: 0,
@@ -174,11 +184,11 @@ fn fit_call(
 }
 
 // A record is read where nothing is wrong with the head.
-fn read_call(head: &mut [u8; 8], record: &mut [u8]) -> CallRead
+fn read_call<I: Read>(input: &mut I, head: &mut [u8; 8], record: &mut [u8]) -> CallRead
     requires { length «record».old ≡ 512 }
     ensures { result.record_read ≤ 512 }
 {
-    let head_read = io::read_full(STDIN_FILENO, head);
+    let head_read = streams::read_full(input, head);
     if call_head_fault(head, head_read) != 0 {
         return CallRead {
             head_read,
@@ -186,14 +196,16 @@ fn read_call(head: &mut [u8; 8], record: &mut [u8]) -> CallRead
         };
     }
     let n = fields::get16(head, 2) as usize;
-    let record_read = io::read_full(STDIN_FILENO, &mut record[..n]);
+    let record_read = streams::read_full(input, &mut record[..n]);
     CallRead {
         head_read,
         record_read,
     }
 }
 
-fn next_call(
+fn next_call<I: Read, O: Write>(
+    input: &mut I,
+    output: &mut O,
     image: &mut [u8],
     journal: &mut [u8],
     head: &mut [u8; 8],
@@ -203,8 +215,8 @@ fn next_call(
 ) -> AnsweredCall
     ensures { AnswersCall (vault image.old journal.old) result.read.head_read head.new result.read.record_read «record».new result.fault (drop result.start out.new) image.new journal.new }
 {
-    let read = read_call(head, record);
-    fit_call(image, journal, head, record, read, events, out)
+    let read = read_call(input, head, record);
+    fit_call(output, image, journal, head, record, read, events, out)
 }
 
 // How many calls were taken, the fault that ended them, and whether the last line was written.
@@ -215,7 +227,13 @@ struct TakenCalls {
     is_written: bool,
 }
 
-fn all_calls(image: &mut [u8], journal: &mut [u8], count: u32) -> TakenCalls
+fn all_calls<I: Read, O: Write>(
+    input: &mut I,
+    output: &mut O,
+    image: &mut [u8],
+    journal: &mut [u8],
+    count: u32,
+) -> TakenCalls
     ensures { TakesCalls (vault image.old journal.old) (vault image.new journal.new) count result.taken result.fault result.is_written }
 {
     let mut head = [0u8; 8];
@@ -225,6 +243,8 @@ fn all_calls(image: &mut [u8], journal: &mut [u8], count: u32) -> TakenCalls
     let mut taken = 0;
     while taken < count {
         let call = next_call(
+            input,
+            output,
             image,
             journal,
             &mut head,
@@ -268,7 +288,9 @@ fn state_fault(image: &[u8], journal: &[u8], image_read: usize, journal_read: us
 }
 
 // A list of whose image and journal so many bytes were read.
-fn take_list(
+fn take_list<I: Read, O: Write>(
+    input: &mut I,
+    output: &mut O,
     image: &mut [u8],
     journal: &mut [u8],
     image_read: usize,
@@ -285,16 +307,30 @@ fn take_list(
             is_written: true,
         };
     }
-    all_calls(image, journal, count)
+    all_calls(input, output, image, journal, count)
 }
 
 // A list whose head was read: image and journal have their lengths.
-fn run_list(image: &mut [u8], journal: &mut [u8], count: u32) -> TakenCalls
+fn run_list<I: Read, O: Write>(
+    input: &mut I,
+    output: &mut O,
+    image: &mut [u8],
+    journal: &mut [u8],
+    count: u32,
+) -> TakenCalls
     ensures { RunsList image.new journal.new count result.taken result.fault result.is_written }
 {
-    let image_read = io::read_full(STDIN_FILENO, image);
-    let journal_read = io::read_full(STDIN_FILENO, journal);
-    take_list(image, journal, image_read, journal_read, count)
+    let image_read = streams::read_full(input, image);
+    let journal_read = streams::read_full(input, journal);
+    take_list(
+        input,
+        output,
+        image,
+        journal,
+        image_read,
+        journal_read,
+        count,
+    )
 }
 
 fn head_fault(head: &[u8; 16], head_read: usize) -> u8
@@ -316,7 +352,14 @@ fn head_fault(head: &[u8; 16], head_read: usize) -> u8
 }
 
 // `image` and `journal` are as long as they may be.
-fn fit_list(image: &mut [u8], journal: &mut [u8], head: &[u8; 16], head_read: usize) -> TakenCalls
+fn fit_list<I: Read, O: Write>(
+    input: &mut I,
+    output: &mut O,
+    image: &mut [u8],
+    journal: &mut [u8],
+    head: &[u8; 16],
+    head_read: usize,
+) -> TakenCalls
     requires { (length image.old ≡ 36848) × (length journal.old ≡ 48048) }
     ensures { TakesList head_read head.now image.new journal.new result.taken result.fault result.is_written }
 {
@@ -331,16 +374,22 @@ fn fit_list(image: &mut [u8], journal: &mut [u8], head: &[u8; 16], head_read: us
     let n = fields::get32(head, 0) as usize;
     let m = fields::get32(head, 4) as usize;
     let count = fields::get32(head, 8);
-    run_list(&mut image[..n], &mut journal[..m], count)
+    run_list(input, output, &mut image[..n], &mut journal[..m], count)
 }
 
 // The buffer of the journal stands apart from that of the image, so that no proof has both.
-fn with_journal(image: &mut [u8], head: &[u8; 16], head_read: usize) -> TakenCalls
+fn with_journal<I: Read, O: Write>(
+    input: &mut I,
+    output: &mut O,
+    image: &mut [u8],
+    head: &[u8; 16],
+    head_read: usize,
+) -> TakenCalls
     requires { length image.old ≡ 36848 }
     ensures { WithJournal head_read head.now image.new result.taken result.fault result.is_written }
 {
     let mut journal = [0u8; 48048];
-    fit_list(image, &mut journal, head, head_read)
+    fit_list(input, output, image, &mut journal, head, head_read)
 }
 
 // How many bytes were read of the head of a list, how many calls were taken, the fault that ended them, and whether the last line was written.
@@ -353,12 +402,12 @@ struct TakenList {
 }
 
 // Where none of the head was read the input ends, and there is no list.
-fn next_list() -> TakenList
+fn next_list<I: Read, O: Write>(input: &mut I, output: &mut O) -> TakenList
     ensures { NextList result.head_read result.taken result.fault result.is_written }
 {
     let mut head = [0u8; 16];
     let mut image = [0u8; 36848];
-    let head_read = io::read_full(STDIN_FILENO, &mut head);
+    let head_read = streams::read_full(input, &mut head);
     if head_read == 0 {
         return TakenList {
             head_read,
@@ -367,7 +416,7 @@ fn next_list() -> TakenList
             is_written: true,
         };
     }
-    let calls = with_journal(&mut image, &head, head_read);
+    let calls = with_journal(input, output, &mut image, &head, head_read);
     TakenList {
         head_read,
         taken: calls.taken,
@@ -386,12 +435,12 @@ struct TakenLists {
 }
 
 // A proved loop has to end: it stops at a number of lists that no run reaches.
-fn all_lists() -> TakenLists
+fn all_lists<I: Read, O: Write>(input: &mut I, output: &mut O) -> TakenLists
     ensures { ListsEnd result.taken result.head_read result.fault result.is_written }
 {
     let mut taken = 0u64;
     while taken < u64::MAX {
-        let list = next_list();
+        let list = next_list(input, output);
         let head_read = list.head_read;
         let fault = list.fault;
         let is_written = list.is_written;
@@ -414,63 +463,72 @@ fn all_lists() -> TakenLists
 }
 
 // Every byte of standard error goes through here, and all of them are the line of a fault that a list has.
-fn write_fault_line(line: &[u8], fault: u8) -> bool
+fn write_fault_line<E: Write>(error: &mut E, line: &[u8], fault: u8) -> bool
     requires { (line.now ≡ fault_line fault) × IsFault fault }
 {
-    io::write_all(STDERR_FILENO, line)
+    streams::write_all(error, line)
 }
 
-fn write_sentence(sentence: &[u8], fault: u8) -> bool
+fn write_sentence<E: Write>(error: &mut E, sentence: &[u8], fault: u8) -> bool
     requires { (sentence.now ≡ fault_text fault) × (length sentence.now ≤ 80) × IsFault fault }
 {
     let mut out = [0u8; 128];
     let start = answer_line::write_message(&mut out, 128, b"token_vault_vectors: ", sentence);
     let whole = &out[..];
-    write_fault_line(&whole[start..], fault)
+    write_fault_line(error, &whole[start..], fault)
 }
 
-fn write_list_fault(fault: u8) -> bool
+fn write_list_fault<E: Write>(error: &mut E, fault: u8) -> bool
     requires { IsFault fault × (fault < 7) }
 {
     match fault {
-        1 => write_sentence(b"a list's head is cut short", fault),
-        2 => write_sentence(b"a list's image is longer than 36848 bytes", fault),
-        3 => write_sentence(b"a list's journal is longer than 48048 bytes", fault),
-        4 => write_sentence(b"bytes 12 to 15 of a list's head are not zero", fault),
-        5 => write_sentence(b"a list's image is cut short", fault),
-        _ => write_sentence(b"a list's journal is cut short", fault),
+        1 => write_sentence(error, b"a list's head is cut short", fault),
+        2 => write_sentence(error, b"a list's image is longer than 36848 bytes", fault),
+        3 => write_sentence(error, b"a list's journal is longer than 48048 bytes", fault),
+        4 => write_sentence(
+            error,
+            b"bytes 12 to 15 of a list's head are not zero",
+            fault,
+        ),
+        5 => write_sentence(error, b"a list's image is cut short", fault),
+        _ => write_sentence(error, b"a list's journal is cut short", fault),
     }
 }
 
-fn write_call_fault(fault: u8) -> bool
+fn write_call_fault<E: Write>(error: &mut E, fault: u8) -> bool
     requires { IsFault fault × (7 ≤ fault) }
 {
     match fault {
-        7 => write_sentence(b"a call's head is cut short", fault),
-        8 => write_sentence(b"a call's kind is above 5", fault),
-        9 => write_sentence(b"bytes 6 and 7 of a call's head are not zero", fault),
+        7 => write_sentence(error, b"a call's head is cut short", fault),
+        8 => write_sentence(error, b"a call's kind is above 5", fault),
+        9 => write_sentence(error, b"bytes 6 and 7 of a call's head are not zero", fault),
         10 => write_sentence(
+            error,
             b"a begin, commit, rollback or undo has a record or an event buffer",
             fault,
         ),
-        11 => write_sentence(b"a call's record is longer than 512 bytes", fault),
-        12 => write_sentence(b"a call's event buffer is longer than 1024 bytes", fault),
-        _ => write_sentence(b"a call's record is cut short", fault),
+        11 => write_sentence(error, b"a call's record is longer than 512 bytes", fault),
+        12 => write_sentence(
+            error,
+            b"a call's event buffer is longer than 1024 bytes",
+            fault,
+        ),
+        _ => write_sentence(error, b"a call's record is cut short", fault),
     }
 }
 
-fn write_fault(fault: u8) -> bool
+fn write_fault<E: Write>(error: &mut E, fault: u8) -> bool
     requires { IsFault fault }
 {
     if fault < 7 {
-        return write_list_fault(fault);
+        return write_list_fault(error, fault);
     }
-    write_call_fault(fault)
+    write_call_fault(error, fault)
 }
 
-fn main() {
-    let lists = all_lists();
+fn main(rt: HostRuntime) {
+    let lists = all_lists(&mut rt.stdin(), &mut rt.stdout());
     if lists.fault != 0 {
-        write_fault(lists.fault);
+        write_fault(&mut rt.stderr(), lists.fault);
     }
 }

@@ -1,6 +1,6 @@
 // The program on a zero image and a record of zeros but operation 24.
 #![tactic(auto)]
 
-fn main() {
-    vault_program::main_loop();
+fn main(rt: HostRuntime) {
+    vault_program::main_loop(&mut rt.stdin(), &mut rt.stdout());
 }

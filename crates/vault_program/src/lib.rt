@@ -7,7 +7,7 @@ ghost use Rattle.vault_program.specs.Program.{signed_at, record_step, IsLine, Pr
 ghost use Rattle.vault_program.specs.Records.{AnswersRead, TakesRecords, TakesImage, Runs};
 
 use amount::Amount;
-use libc::{STDIN_FILENO, STDOUT_FILENO};
+use std::io::{Read, Write};
 
 pub fn read_value(bytes: &[u8; 16]) -> Amount
     ensures { value result ≡ signed_at bytes.now }
@@ -34,17 +34,17 @@ pub fn answer_record(image: &mut [u8], record: &[u8], out: &mut [u8; 160]) -> us
 }
 
 // Every byte of the output goes through here, and all of them are lines of answers.
-fn write_answer_line(line: &[u8]) -> bool
+fn write_answer_line<O: Write>(output: &mut O, line: &[u8]) -> bool
     requires { IsLine line.now }
 {
-    io::write_all(STDOUT_FILENO, line)
+    streams::write_all(output, line)
 }
 
-fn write_from(out: &[u8; 160], start: usize) -> bool
+fn write_from<O: Write>(output: &mut O, out: &[u8; 160], start: usize) -> bool
     requires { IsLine (drop start out.now) × (start ≤ 160) }
 {
     let whole = &out[..];
-    write_answer_line(&whole[start..])
+    write_answer_line(output, &whole[start..])
 }
 
 // Where the line begins in `out`, and whether it was written.
@@ -54,11 +54,16 @@ struct PrintedLine {
     is_written: bool,
 }
 
-fn print_answer(image: &mut [u8], record: &[u8], out: &mut [u8; 160]) -> PrintedLine
+fn print_answer<O: Write>(
+    output: &mut O,
+    image: &mut [u8],
+    record: &[u8],
+    out: &mut [u8; 160],
+) -> PrintedLine
     ensures { Prints (record_step image.old «record».now) (drop result.start out.new) image.new × (result.start ≤ 160) }
 {
     let start = answer_record(image, record, out);
-    let is_written = write_from(out, start);
+    let is_written = write_from(output, out, start);
     PrintedLine { start, is_written }
 }
 
@@ -71,7 +76,8 @@ struct AnsweredRecord {
 }
 
 // Answers a record of which `read` bytes were read. Where none was there is no line.
-fn answer_read(
+fn answer_read<O: Write>(
+    output: &mut O,
     image: &mut [u8],
     record: &[u8; 448],
     read: usize,
@@ -89,7 +95,7 @@ fn answer_read(
         };
     }
     let whole = &record[..];
-    let printed = print_answer(image, &whole[..read], out);
+    let printed = print_answer(output, image, &whole[..read], out);
     AnsweredRecord {
         read,
         start: printed.start,
@@ -97,11 +103,17 @@ fn answer_read(
     }
 }
 
-fn next_record(image: &mut [u8], record: &mut [u8; 448], out: &mut [u8; 160]) -> AnsweredRecord
+fn next_record<I: Read, O: Write>(
+    input: &mut I,
+    output: &mut O,
+    image: &mut [u8],
+    record: &mut [u8; 448],
+    out: &mut [u8; 160],
+) -> AnsweredRecord
     ensures { AnswersRead image.old «record».new result.read (drop result.start out.new) image.new × (result.read ≤ 448) }
 {
-    let n = io::read_full(STDIN_FILENO, record);
-    answer_read(image, record, n, out)
+    let n = streams::read_full(input, record);
+    answer_read(output, image, record, n, out)
 }
 
 // How many records were taken, how many bytes the last read gave, and whether the last line was written.
@@ -113,13 +125,18 @@ struct TakenRecords {
 }
 
 // A proved loop has to end: it stops at a number of records that no run reaches.
-fn all_records(image: &mut [u8], out: &mut [u8; 160]) -> TakenRecords
+fn all_records<I: Read, O: Write>(
+    input: &mut I,
+    output: &mut O,
+    image: &mut [u8],
+    out: &mut [u8; 160],
+) -> TakenRecords
     ensures { TakesRecords image.old image.new result.taken result.read result.is_written }
 {
     let mut record = [0u8; 448];
     let mut taken = 0u64;
     while taken < u64::MAX {
-        let answered = next_record(image, &mut record, out);
+        let answered = next_record(input, output, image, &mut record, out);
         let n = answered.read;
         let is_written = answered.is_written;
         if n == 0 {
@@ -156,12 +173,18 @@ pub struct Run {
 }
 
 // An image of which `image_read` bytes were read. A short one gets one line, with 30, whatever it holds.
-fn run_image(image: &mut [u8], image_read: usize, out: &mut [u8; 160]) -> Run
+fn run_image<I: Read, O: Write>(
+    input: &mut I,
+    output: &mut O,
+    image: &mut [u8],
+    image_read: usize,
+    out: &mut [u8; 160],
+) -> Run
     requires { (length image.old ≡ 36832) × (image_read ≤ 36832) }
     ensures { TakesImage image.old result.image_read (drop result.start out.new) image.new result.taken result.read result.is_written × (result.image_read ≡ image_read) }
 {
     if image_read < 36832 {
-        let printed = print_answer(&mut image[..image_read], &[], out);
+        let printed = print_answer(output, &mut image[..image_read], &[], out);
         return Run {
             image_read,
             start: printed.start,
@@ -170,7 +193,7 @@ fn run_image(image: &mut [u8], image_read: usize, out: &mut [u8; 160]) -> Run
             is_written: printed.is_written,
         };
     }
-    let records = all_records(image, out);
+    let records = all_records(input, output, image, out);
     Run {
         image_read,
         start: 160,
@@ -180,11 +203,11 @@ fn run_image(image: &mut [u8], image_read: usize, out: &mut [u8; 160]) -> Run
     }
 }
 
-pub fn main_loop() -> Run
+pub fn main_loop<I: Read, O: Write>(input: &mut I, output: &mut O) -> Run
     ensures { Runs result.image_read result.taken result.read result.is_written }
 {
     let mut image = [0u8; 36832];
     let mut out = [0u8; 160];
-    let n = io::read_full(STDIN_FILENO, &mut image);
-    run_image(&mut image, n, &mut out)
+    let n = streams::read_full(input, &mut image);
+    run_image(input, output, &mut image, n, &mut out)
 }
