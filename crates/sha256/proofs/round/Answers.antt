@@ -1,0 +1,7 @@
+-- `round` meets its contract, by what each call ensures.
+use Rattle.sha256.specs.Sha256.{round}
+use Rattle.sha256.proofs.round.Goals as goal
+
+pub returns : goal.returns
+unfolding round
+returns c = rw (c.add-2.ensures, c.add.ensures, c.temporary2-t2.ensures, c.temporary1-t1.ensures)
