@@ -7,22 +7,22 @@ ghost use Rattle.amount.specs.Biased.{amount_at, bias, sign_of};
 ghost use Rattle.image.specs.Layout.{image_length, bit};
 ghost use Rattle.fields.specs.Logic.{all};
 ghost use Rattle.image.specs.Good.{
-  notNegatives,
-  aboveWhere,
-  goodAddresses,
-  goodDefaults,
-  goodPending,
-  goodMigration,
-  goodOptions,
-  goodHead,
-  goodCap,
-  freshKey,
-  goodKeys,
-  goodSnapshot,
-  goodAbsent,
-  goodPresent,
-  goodToken,
-  goodImage,
+  not_negatives,
+  above_where,
+  good_addresses,
+  good_defaults,
+  good_pending,
+  good_migration,
+  good_options,
+  good_head,
+  good_cap,
+  fresh_key,
+  good_keys,
+  good_snapshot,
+  good_absent,
+  good_present,
+  good_token,
+  good_image,
 };
 
 use fields::{both, either};

@@ -1,0 +1,15 @@
+-- `checks::funds_check` meets its contract.
+use Rattle.checks.specs.Checks.{funds_number}
+use Rattle.fields.specs.Rules.{stop_at}
+use native.Mathlib.Omega.{arith}
+use mathlib.Core.Path.{refl}
+use borrow.Author.Rules.{rules}
+use Rattle.checks.proofs.funds_check.Goals as goal
+
+pub returns-then-below-ne0 : goal.returns-then-below-ne0
+unfolding funds_number
+returns-then-below-ne0 c = stop_at _ 0 _ (omega arith) refl
+
+pub returns : goal.returns
+unfolding funds_number
+returns c = stop_at _ 1 _ (omega arith) refl

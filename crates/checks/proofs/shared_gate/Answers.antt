@@ -1,0 +1,14 @@
+-- `checks::shared_gate` meets its contract.
+use Rattle.checks.specs.Checks.{shared_number}
+use Rattle.fields.specs.Rules.{link_at_lem, ends_at}
+use native.Mathlib.Omega.{arith}
+use borrow.Author.Rules.{rules}
+use Rattle.checks.proofs.shared_gate.Goals as goal
+
+pub returns-then-k-ne0 : goal.returns-then-k-ne0
+unfolding shared_number
+returns-then-k-ne0 c = link_at_lem _ 0 _ (omega arith) c.insider_check-k.ensures
+
+pub returns : goal.returns
+unfolding shared_number
+returns c = ends_at _ 1 _ (omega arith) c.signed_check.ensures

@@ -1,0 +1,8 @@
+-- `image::good_present` meets its contract.
+use Rattle.image.specs.Good.{good_present}
+use borrow.Author.Rules.{rules}
+use Rattle.image.proofs.good_present.Goals as goal
+
+pub returns : goal.returns
+unfolding good_present
+returns c = cc

@@ -1,0 +1,15 @@
+-- `image::good_tokens` meets its contract.
+use mathlib.Core.Path.{◌≡◌, sym, ◌∙◌}
+use mathlib.Core.Bool.{true}
+use Prim.Native.Nat.{◌-◌, ◌≤◌}
+use borrow.Author.Tests.{not-true, not-false}
+use Rattle.fields.specs.Logic.{all, all_none, all-step, all_stop, all_end}
+use Rattle.image.specs.Good.{good_token}
+use borrow.Author.Rules.{rules}
+use Rattle.image.proofs.good_tokens.Given as goal
+
+abbrev pub invariant-loop-t : goal.invariant-loop-t
+invariant-loop-t l = (l.t ≤ 16) × (true ≡ all (good_token l.s) l.t)
+
+abbrev pub decreases-loop-t : goal.decreases-loop-t
+decreases-loop-t l = 16 - l.t

@@ -1,0 +1,6 @@
+-- `image::sign_at` meets its contract.
+use borrow.Author.Rules.{rules}
+use Rattle.image.proofs.sign_at.Goals as goal
+
+pub returns : goal.returns
+returns c = rw c.read_amount.ensures at c.sign.ensures

@@ -1,0 +1,16 @@
+-- `journal::good_entries`: what is left of the test is the whole test.
+use mathlib.Core.Path.{◌≡◌, ap, ◌∙◌}
+use Prim.Native.Nat.{suc, ◌≤◌, ◌-◌, ◌*◌}
+use native.Mathlib.Omega.{arith}
+use lib.ListN.{drop}
+use borrow.Author.Tests.{not-true, not-false}
+use borrow.Author.Rules.{rules}
+use Rattle.journal.proofs.Scanned.{turn_stops, turn_goes, turn_ends}
+use Rattle.journal.specs.Scan.{scan_entries}
+use Rattle.journal.proofs.good_entries.Given as goal
+
+abbrev pub invariant-loop-i : goal.invariant-loop-i
+invariant-loop-i l = (l.i ≤ l.count) × (scan_entries l.cells l.calls (l.count - l.i) l.last l.next (drop (24 * suc l.i) l.journal) ≡ scan_entries l.cells l.calls l.count 0 0 (drop 24 l.journal))
+
+abbrev pub decreases-loop-i : goal.decreases-loop-i
+decreases-loop-i l = l.count - l.i

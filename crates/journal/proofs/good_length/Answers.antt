@@ -1,0 +1,8 @@
+-- `journal::good_length`: the tests, joined as in the definition.
+use borrow.Author.Rules.{rules}
+use Rattle.journal.specs.Journal.{fits}
+use Rattle.journal.proofs.good_length.Goals as goal
+
+pub returns : goal.returns
+unfolding fits
+returns c = cc

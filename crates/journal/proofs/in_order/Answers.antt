@@ -1,0 +1,8 @@
+-- `journal::in_order`: the tests, joined as in the definition.
+use borrow.Author.Rules.{rules}
+use Rattle.journal.specs.Scan.{in_order_of}
+use Rattle.journal.proofs.in_order.Goals as goal
+
+pub returns : goal.returns
+unfolding in_order_of
+returns c = cc

@@ -1,0 +1,18 @@
+-- `journal::put_back`: with k entries left, those behind them are put back.
+use mathlib.Core.Path.{◌≡◌, refl, ap, ◌∙◌}
+use Prim.Native.Nat.{◌≤◌, ◌+◌, ◌*◌, ◌-◌}
+use native.Mathlib.Nat.{le_antisymm}
+use native.Mathlib.Omega.{arith}
+use lib.Seq.{drop-length}
+use lib.ListN.{length, drop}
+use borrow.Rule.Slice.PartMut.{same_len_mid}
+use borrow.Author.Rules.{rules}
+use Rattle.journal.proofs.Backwards.{in_journal, in_image, put_turn}
+use Rattle.journal.specs.Journal.{contents_of, restore}
+use Rattle.journal.proofs.put_back.Given as goal
+
+abbrev pub invariant-loop-k : goal.invariant-loop-k
+invariant-loop-k l = (l.from ≤ l.k) × (l.k ≤ l.count) × (length l.image ≡ length l.initial.image) × (l.image ≡ restore (drop l.k (contents_of l.journal).entries) l.initial.image)
+
+abbrev pub decreases-loop-k : goal.decreases-loop-k
+decreases-loop-k l = l.k

@@ -1,0 +1,14 @@
+-- `outcome::announce` meets its contract.
+use Rattle.outcome.specs.Outcome.{blank_long}
+use Rattle.events.specs.Buffer.{appended}
+use native.Mathlib.Omega.{arith}
+use mathlib.Core.List.{[]}
+use mathlib.Core.Path.{refl}
+use borrow.Author.Rules.{rules}
+use Rattle.outcome.proofs.announce.Goals as goal
+
+pub put_event-requires : goal.put_event-requires
+put_event-requires c = (blank_long c.requires, omega arith)
+
+pub returns : goal.returns
+returns c = let d = c.done.ensures in record { done = d.0; nothing = d.1; one = d.2; written = appended [] 0 c.requires refl c.put_event.ensures refl (omega arith) }

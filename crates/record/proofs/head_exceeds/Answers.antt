@@ -1,0 +1,25 @@
+-- `record::head_exceeds` meets its contract.
+use Rattle.record.specs.Form.{head_exceeds}
+use borrow.Author.Rules.{rules}
+use Rattle.record.proofs.head_exceeds.Goals as goal
+
+pub returns : goal.returns
+unfolding head_exceeds
+returns c = rw (
+  c.either-3.ensures,
+  c.either-2.ensures,
+  c.either.ensures,
+  c.exceeds-a.ensures,
+  c.exceeds-b.ensures,
+  c.exceeds-c.ensures,
+  c.exceeds-d.ensures,
+  c.reads_caller.ensures,
+  c.caller.ensures,
+  c.reads_token.ensures,
+  c.token.ensures,
+  c.reads_other.ensures,
+  c.other.ensures,
+  c.reads_flag.ensures,
+  c.flag.ensures,
+  c.operation-o.ensures,
+)

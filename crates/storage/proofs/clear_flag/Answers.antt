@@ -1,0 +1,6 @@
+-- `storage::clear_flag` meets its contract.
+use borrow.Author.Rules.{rules}
+use Rattle.storage.proofs.clear_flag.Goals as goal
+
+pub returns : goal.returns
+returns c = rw (c.put16.ensures, c.without_bit.ensures, c.get16-f.ensures)

@@ -1,0 +1,8 @@
+-- `storage::record_vault_balance` meets its contract.
+use Rattle.storage.specs.Setters.{record_balance}
+use borrow.Author.Rules.{rules}
+use Rattle.storage.proofs.record_vault_balance.Goals as goal
+
+pub returns : goal.returns
+unfolding record_balance
+returns c = rw (c.write_amount.ensures, c.put32-2.ensures, c.put32.ensures)
