@@ -1,0 +1,20 @@
+-- `views::effective_withdraw_limit_of` meets its contract.
+use Rattle.views.specs.Views.{effective_outcome, effective_number}
+use Rattle.outcome.specs.Outcome.{view_refused, view_accepted}
+use Rattle.checks.specs.Passed.{initialised_free}
+use Rattle.fields.specs.Rules.{unlinked}
+use mathlib.Core.Path.{refl, sym, ◌∙◌}
+use borrow.Author.Rules.{rules}
+use Rattle.views.proofs.effective_withdraw_limit_of.Goals as goal
+
+pub returns-then-k-ne0 : goal.returns-then-k-ne0
+unfolding effective_outcome
+returns-then-k-ne0 c = view_refused _ c.refuse.ensures c.effective_check-k.ensures c.if-k-ne0.true
+
+pub effective_value-requires : goal.effective_value-requires
+unfolding effective_number
+effective_value-requires c = let u = unlinked _ (sym c.effective_check-k.ensures ∙ c.if-k-ne0.false) in (search rules, initialised_free _ refl u.1.0)
+
+pub returns : goal.returns
+unfolding effective_outcome
+returns c = view_accepted (sym c.effective_check-k.ensures ∙ c.if-k-ne0.false) c.viewed.ensures c.effective_value.ensures

@@ -1,0 +1,17 @@
+-- `views::is_token_approved` meets its contract.
+use Rattle.views.specs.Views.{approved_outcome}
+use Rattle.outcome.specs.Outcome.{view_accepted}
+use Rattle.outcome.specs.FormedLaws.{token_in}
+use Rattle.record.specs.Form.{reads_token, member}
+use native.Mathlib.Omega.{arith}
+use mathlib.Core.Path.{refl}
+use borrow.Author.Rules.{rules}
+use Rattle.views.proofs.is_token_approved.Goals as goal
+
+pub has-requires : goal.has-requires
+unfolding reads_token member
+has-requires c = let f = c.requires.1 in omega (arith, token_in f refl)
+
+pub returns : goal.returns
+unfolding approved_outcome
+returns c = view_accepted refl c.viewed.ensures (omega (arith, rw (c.get64.ensures, c.token-t.ensures) at c.has.ensures))

@@ -1,0 +1,6 @@
+-- `views::is_token_compliant` meets its contract.
+use borrow.Author.Rules.{rules}
+use Rattle.views.proofs.is_token_compliant.Goals as goal
+
+pub returns : goal.returns
+returns c = rw c.token.ensures at c.is_token_compliant_of.ensures

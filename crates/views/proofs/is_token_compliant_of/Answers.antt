@@ -1,0 +1,20 @@
+-- `views::is_token_compliant_of` meets its contract.
+use Rattle.views.specs.Views.{compliant_outcome, compliant_number}
+use Rattle.outcome.specs.Outcome.{view_refused, view_accepted}
+use borrow.Author.Tests.{eq-eqb, ne_eqb}
+use native.Mathlib.Omega.{arith}
+use mathlib.Core.Path.{refl, sym, ◌∙◌}
+use borrow.Author.Rules.{rules}
+use Rattle.views.proofs.is_token_compliant_of.Goals as goal
+
+pub returns-then-t-eq0 : goal.returns-then-t-eq0
+unfolding compliant_outcome compliant_number
+returns-then-t-eq0 c = rw (eq-eqb c.args.t 0 c.if-t-eq0.true) (view_accepted refl c.viewed.ensures (omega arith))
+
+pub returns-then-k-ne0 : goal.returns-then-k-ne0
+unfolding compliant_outcome compliant_number
+returns-then-k-ne0 c = rw (ne_eqb c.args.t 0 c.if-t-eq0.false) (view_refused _ c.refuse.ensures c.presence_check-k.ensures c.if-k-ne0.true)
+
+pub returns : goal.returns
+unfolding compliant_outcome compliant_number
+returns c = rw (ne_eqb c.args.t 0 c.if-t-eq0.false) (view_accepted (sym c.presence_check-k.ensures ∙ c.if-k-ne0.false) c.viewed-2.ensures (omega arith))

@@ -1,0 +1,23 @@
+-- `views::withdraw_cap_check` meets its contract.
+use Rattle.views.specs.Views.{withdraw_cap_number}
+use Rattle.fields.specs.Rules.{stop_at}
+use native.Mathlib.Omega.{arith}
+use mathlib.Core.Path.{refl}
+use borrow.Author.Rules.{rules}
+use Rattle.views.proofs.withdraw_cap_check.Goals as goal
+
+pub returns-then-get8-caller : goal.returns-then-get8-caller
+unfolding withdraw_cap_number
+returns-then-get8-caller c = stop_at _ 0 _ (omega arith) refl
+
+pub returns-then-is_insider-ne1 : goal.returns-then-is_insider-ne1
+unfolding withdraw_cap_number
+returns-then-is_insider-ne1 c = stop_at _ 1 _ (omega arith) refl
+
+pub returns-then-flag_of-ne1 : goal.returns-then-flag_of-ne1
+unfolding withdraw_cap_number
+returns-then-flag_of-ne1 c = stop_at _ 2 _ (omega arith) refl
+
+pub returns : goal.returns
+unfolding withdraw_cap_number
+returns c = stop_at _ 3 _ (omega arith) refl
