@@ -1,13 +1,12 @@
 -- Reading a record that was laid out field by field.
-use Rattle.std.proofs.Common.{◌≡◌, ℕ, zero, suc, ◌+◌, ◌*◌, ◌/◌, ◌%◌, ◌^◌, ◌<◌, ◌≤◌, Bool, true, false, not, ◌&&◌, ltb, List, [], ◌∷◌, length, get_or, replicate, sym, refl, ap, ◌∙◌, subst, lt_of_le_of_lt, add-zero, arith, lit<, le-ltb, lt-ltb}
+use Rattle.std.proofs.Common.{◌≡◌, ℕ, zero, suc, ◌+◌, ◌*◌, ◌/◌, ◌^◌, ◌<◌, ◌≤◌, Bool, true, false, not, ◌&&◌, ltb, List, [], ◌∷◌, length, get_or, replicate, sym, refl, ap, ◌∙◌, lt_of_le_of_lt, add-zero, arith, lit<, le-ltb, lt-ltb}
 use Rattle.fields.specs.Bytes.{le, put, apart, bytes, bytes_from, length-put, le-put_other, le-put-same, le_split, put_split}
 use Rattle.fields.specs.Frame.{only_put}
-use Rattle.fields.specs.Logic.{◌and◌, ◌or◌, and_false, all, all_from}
-use Rattle.fields.specs.Rules.{and_left, and_right, stop, verdict}
+use Rattle.fields.specs.Logic.{◌and◌, ◌or◌, and_false, all_from}
+use Rattle.fields.specs.Rules.{and_left, and_right, stop}
 use Rattle.amount.specs.Biased.{bias, amount_at}
 use Rattle.record.specs.Record.{operation_of, caller_of, token_of, other_of, flag_of, item_count_of, item_address}
 use Rattle.record.specs.Form.{reads_caller, reads_token, reads_other, reads_flag, reads_items, item_within, items_within, head_exceeds, items_exceed, form_rules, form_number}
-use Rattle.trial_records.specs.Generator.{draw, steps}
 use Rattle.trial_records.specs.Trial.{Field, field, laid, Drawn, draws_from, trial_fields, record_of}
 use Rattle.trial_records.specs.Laws.{laid_long}
 use Rattle.trial_records.specs.Theorems.{ReadAs}

@@ -1,5 +1,5 @@
 -- The product of two numbers by their halves of 32 bits, modulo 2 ^ 64.
-use Rattle.std.proofs.Common.{◌≡◌, ℕ, ◌+◌, ◌*◌, ◌/◌, ◌%◌, ◌^◌, ◌<◌, ◌≤◌, sym, refl, ap, ◌∙◌, mul-le-mul_right, mul_assoc, add-mul, div-add-mod', mul-add, mul_right_comm, arith}
+use Rattle.std.proofs.Common.{◌≡◌, ℕ, ◌+◌, ◌*◌, ◌/◌, ◌%◌, ◌^◌, ◌<◌, ◌≤◌, sym, ap, ◌∙◌, mul-le-mul_right, mul_assoc, add-mul, div-add-mod', mul-add, mul_right_comm, arith}
 use native.Mathlib.Nat.{mul-mul-mul_comm}
 
 halves_product : (h l k m W : ℕ) → (h * W + l) * (k * W + m) ≡ h * k * (W * W) + (h * m + l * k) * W + l * m

@@ -1,8 +1,8 @@
 -- The theorems on trial records.
-use Rattle.std.proofs.Common.{◌≡◌, ℕ, zero, suc, ◌+◌, ◌*◌, ◌/◌, ◌%◌, ◌^◌, ◌<◌, ◌≤◌, Bool, true, false, eqb, List, ◌++◌, length, sym, refl, ap, ◌∙◌, subst, arith, ne_eqb, eqb-true}
-use Rattle.fields.specs.Rules.{pick, stop, passed}
+use Rattle.std.proofs.Common.{◌≡◌, ℕ, ◌+◌, ◌/◌, ◌%◌, ◌^◌, ◌<◌, Bool, true, false, eqb, List, length, sym, refl, ap, ◌∙◌, arith, eqb-true}
+use Rattle.fields.specs.Rules.{pick}
 use Rattle.record.specs.Form.{form_number}
-use Rattle.trial_records.specs.Trial.{draws_from, record_of, trial_record, reached_from, records_from, trial_rules, trial_number, Trial, made, refused, trial, TrialIs}
+use Rattle.trial_records.specs.Trial.{draws_from, record_of, trial_record, reached_from, records_from, trial_number, Trial, made, refused, trial, TrialIs}
 use Rattle.trial_records.specs.Theorems.{SameAsWhole, goes_on, record_at, ReadAs, TrialRecords}
 use Rattle.trial_records.specs.Laws.{Allowed, allowed, is_allowed, trial-made, trial-refused, reached_parts, records_parts}
 use Rattle.trial_records.proofs.Fields.{draws_within, read_as, record_bytes, good_form}

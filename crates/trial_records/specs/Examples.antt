@@ -1,5 +1,5 @@
 -- The definitions computed: the first record from the starting number 1, and the ends of refusal 32.
-use Rattle.std.specs.Prelude.{◌≡◌, ℕ, ◌*◌, List, [], ◌∷◌, ◌++◌, replicate, refl}
+use Rattle.std.specs.Prelude.{◌≡◌, ◌*◌, [], ◌∷◌, ◌++◌, replicate, refl}
 use Rattle.fields.specs.Bytes.{put}
 use Rattle.fields.specs.Rules.{verdict}
 use Rattle.trial_records.specs.Generator.{next, steps, draw}
