@@ -1,0 +1,10 @@
+-- `journal_bench::enter_cells_by_bytes`: a walk over the cells of whole images, with the bytes of each cell compared.
+use Prim.Native.Nat.{◌-◌}
+use Rattle.journal.proofs.Stretches.{Walked}
+use Rattle.journal_bench.proofs.enter_cells_by_bytes.Given as goal
+
+abbrev pub invariant-loop-k : goal.invariant-loop-k
+invariant-loop-k l = Walked l.call 0 l.old l.new l.initial.places l.cells l.k l.n l.places
+
+abbrev pub decreases-loop-k : goal.decreases-loop-k
+decreases-loop-k l = l.cells - l.k
