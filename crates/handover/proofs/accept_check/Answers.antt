@@ -1,0 +1,18 @@
+-- `handover::accept_check` meets its contract.
+use Rattle.handover.specs.Handover.{accept_number}
+use Rattle.fields.specs.Rules.{link_at_lem, ends_at}
+use native.Mathlib.Omega.{arith}
+use borrow.Author.Rules.{rules}
+use Rattle.handover.proofs.accept_check.Goals as goal
+
+pub returns-then-k1-ne0 : goal.returns-then-k1-ne0
+unfolding accept_number
+returns-then-k1-ne0 c = link_at_lem _ 0 _ (omega arith) c.pending_check-k1.ensures
+
+pub returns-then-k2-ne0 : goal.returns-then-k2-ne0
+unfolding accept_number
+returns-then-k2-ne0 c = link_at_lem _ 1 _ (omega arith) c.signed_check-k2.ensures
+
+pub returns : goal.returns
+unfolding accept_number
+returns c = ends_at _ 2 _ (omega arith) c.expired_check.ensures

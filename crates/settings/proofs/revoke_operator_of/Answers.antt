@@ -1,0 +1,14 @@
+-- `settings::revoke_operator_of` meets its contract.
+use Rattle.settings.specs.Settings.{operator_revoked_outcome}
+use Rattle.outcome.specs.Outcome.{refused, announced}
+use mathlib.Core.Path.{sym, ◌∙◌}
+use borrow.Author.Rules.{rules}
+use Rattle.settings.proofs.revoke_operator_of.Goals as goal
+
+pub returns-then-k-ne0 : goal.returns-then-k-ne0
+unfolding operator_revoked_outcome
+returns-then-k-ne0 c = refused _ c.refuse.ensures c.owner_gate-k.ensures c.if-k-ne0.true
+
+pub returns : goal.returns
+unfolding operator_revoked_outcome
+returns c = announced (sym c.owner_gate-k.ensures ∙ c.if-k-ne0.false) c.operator_revoked.ensures c.announce.ensures (rw (c.put8.ensures, c.clear_flag.ensures))

@@ -1,0 +1,14 @@
+-- `settings::unpause_check` meets its contract.
+use Rattle.settings.specs.Settings.{unpause_number}
+use Rattle.fields.specs.Rules.{link_at_lem, ends_at}
+use native.Mathlib.Omega.{arith}
+use borrow.Author.Rules.{rules}
+use Rattle.settings.proofs.unpause_check.Goals as goal
+
+pub returns-then-k-ne0 : goal.returns-then-k-ne0
+unfolding unpause_number
+returns-then-k-ne0 c = link_at_lem _ 0 _ (omega arith) c.owner_gate-k.ensures
+
+pub returns : goal.returns
+unfolding unpause_number
+returns c = ends_at _ 1 _ (omega arith) c.not_paused_check.ensures

@@ -1,0 +1,20 @@
+-- `setup::approve_check` meets its contract.
+use Rattle.setup.specs.Setup.{approve_number}
+use Rattle.fields.specs.Rules.{link_at_lem, ends_at}
+use borrow.Author.Tests.{eq-eqb, ne_eqb}
+use native.Mathlib.Omega.{arith}
+use mathlib.Core.Path.{refl, sym, ◌∙◌}
+use borrow.Author.Rules.{rules}
+use Rattle.setup.proofs.approve_check.Goals as goal
+
+pub returns-then-k-ne0 : goal.returns-then-k-ne0
+unfolding approve_number
+returns-then-k-ne0 c = link_at_lem _ 0 _ (omega arith) c.owner_gate-k.ensures
+
+pub returns-then-on-ne1 : goal.returns-then-on-ne1
+unfolding approve_number
+returns-then-on-ne1 c = rw (ne_eqb c.args.on 1 c.if-on-ne1.true) (link_at_lem _ 2 0 (sym c.owner_gate-k.ensures ∙ c.if-k-ne0.false, (refl, tt)) refl)
+
+pub returns : goal.returns
+unfolding approve_number
+returns c = rw (eq-eqb c.args.on 1 c.if-on-ne1.false) (ends_at _ 1 _ (omega arith) c.valid_token_check.ensures)
