@@ -1,0 +1,14 @@
+-- `batch_deposits::item_check` meets its contract.
+use Rattle.batch_deposits.specs.Batch.{item_number}
+use Rattle.fields.specs.Rules.{link_at_lem, ends_at}
+use native.Mathlib.Omega.{arith}
+use borrow.Author.Rules.{rules}
+use Rattle.batch_deposits.proofs.item_check.Goals as goal
+
+pub returns-then-k-ne0 : goal.returns-then-k-ne0
+unfolding item_number
+returns-then-k-ne0 c = let e = rw c.item_amount.ensures at c.deposit_amount_check-k.ensures in link_at_lem _ 0 _ (omega arith) e
+
+pub returns : goal.returns
+unfolding item_number
+returns c = let e = rw c.item_amount.ensures at c.deposit_amount_check-k.ensures in ends_at _ 1 _ (omega arith) (rw c.item_address.ensures at c.signed_check.ensures)

@@ -1,0 +1,14 @@
+-- `batch_deposits::transfer_items` meets its contract.
+use mathlib.Core.Path.{◌≡◌, refl}
+use Rattle.batch_deposits.proofs.Loops.{Underway, begin, written_long, stops, goes_on, ends}
+use lib.ListN.{length}
+use Prim.Native.Nat.{◌≤◌, ◌-◌}
+use native.Mathlib.Omega.{arith}
+use borrow.Author.Rules.{rules}
+use Rattle.batch_deposits.proofs.transfer_items.Given as goal
+
+abbrev pub invariant-loop-i : goal.invariant-loop-i
+invariant-loop-i l = (l.i ≤ l.count) × (length l.events ≡ length l.initial.events) × Underway l.rec l.t l.count l.initial.img l.i l.img l.events
+
+abbrev pub decreases-loop-i : goal.decreases-loop-i
+decreases-loop-i l = l.count - l.i

@@ -1,0 +1,14 @@
+-- `migration::cancel_check` meets its contract.
+use Rattle.migration.specs.Migration.{cancel_number}
+use Rattle.fields.specs.Rules.{link_at_lem, ends_at}
+use native.Mathlib.Omega.{arith}
+use borrow.Author.Rules.{rules}
+use Rattle.migration.proofs.cancel_check.Goals as goal
+
+pub returns-then-k-ne0 : goal.returns-then-k-ne0
+unfolding cancel_number
+returns-then-k-ne0 c = link_at_lem _ 0 _ (omega arith) c.owner_gate-k.ensures
+
+pub returns : goal.returns
+unfolding cancel_number
+returns c = ends_at _ 1 _ (omega arith) c.migration_check.ensures

@@ -1,0 +1,6 @@
+-- `moves::freeze` meets its contract.
+use borrow.Author.Rules.{rules}
+use Rattle.moves.proofs.freeze.Goals as goal
+
+pub returns : goal.returns
+returns c = rw (c.token-t.ensures, c.flag.ensures) at c.freeze_of.ensures

@@ -1,0 +1,25 @@
+-- `payouts::pay_items` meets its contract.
+use Rattle.payouts.proofs.Loops.{Paying, pay_start, pay_end, payee, amount, pay_stop, pay_turn}
+use Rattle.payouts.specs.Payouts.{items}
+use Rattle.amount.specs.Biased.{num}
+use lib.ListN.{length}
+use native.Mathlib.Omega.{arith}
+use mathlib.Core.Path.{◌≡◌}
+use Prim.Native.Nat.{◌+◌, ◌-◌, ◌≤◌}
+use borrow.Author.Rules.{rules}
+use Rattle.payouts.proofs.pay_items.Goals as goal
+
+pub loop-i-init : goal.loop-i-init
+loop-i-init c = let n = c.args.count in (omega arith, search rules, search rules, pay_start _ _ _ _ n (n - 0) _ _ _ (omega arith) c.requires.0 c.requires.1 c.requires.7)
+
+pub pay-k-requires : goal.pay-k-requires
+pay-k-requires c = let s = c.args in let l = c.loop-i in let n = s.count - l.i in let o = s.count - (l.i + 1) in (l.invariant.3.good, search rules, omega arith, search rules, search rules, payee n l.i s.rec.now l.invariant.3 o (l.i + 1) (omega arith) (omega arith) c.item_address-to.ensures, amount n l.i s.rec.now l.invariant.3 o (l.i + 1) (omega arith) (omega arith) c.item_amount-n.ensures)
+
+pub returns-then-k-ne0 : goal.returns-then-k-ne0
+returns-then-k-ne0 c = let s = c.args in let l = c.loop-i in pay_stop (s.count - l.i) l.i s.rec.now l.invariant.3 (s.count - (l.i + 1)) (l.i + 1) (omega arith) (omega arith) c.item_address-to.ensures c.item_amount-n.ensures c.pay-k.ensures c.if-k-ne0.true
+
+pub loop-i-preserved : goal.loop-i-preserved
+loop-i-preserved c = let s = c.args in let l = c.loop-i in (omega arith, search rules, search rules, pay_turn (s.count - l.i) l.i s.rec.now l.invariant.3 (s.count - (l.i + 1)) (l.i + 1) (omega arith) (omega arith) c.item_address-to.ensures c.item_amount-n.ensures c.pay-k.ensures c.if-k-ne0.false)
+
+pub returns : goal.returns
+returns c = let s = c.args in let l = c.loop-i in pay_end (s.count - l.i) l.i s.rec.now l.invariant.3 (omega arith)

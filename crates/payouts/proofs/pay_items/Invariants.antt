@@ -1,0 +1,19 @@
+-- `payouts::pay_items` meets its contract.
+use Rattle.payouts.proofs.Loops.{Paying, pay_start, pay_end, payee, amount, pay_stop, pay_turn}
+use Rattle.payouts.specs.Payouts.{items}
+use Rattle.amount.specs.Biased.{num}
+use lib.ListN.{length}
+use native.Mathlib.Omega.{arith}
+use mathlib.Core.Path.{◌≡◌}
+use Prim.Native.Nat.{◌+◌, ◌-◌, ◌≤◌}
+use borrow.Author.Rules.{rules}
+use Rattle.payouts.proofs.pay_items.Given as goal
+
+abbrev pub invariant-loop-i : goal.invariant-loop-i
+invariant-loop-i l = (l.i ≤ l.count)
+    × (length l.img ≡ 36832)
+    × (length l.events ≡ 896)
+    × Paying l.t l.sequence l.caller (num l.by_operator) (items l.count 0 l.rec) l.initial.img l.initial.events l.i (items (l.count - l.i) l.i l.rec) l.img l.events
+
+abbrev pub decreases-loop-i : goal.decreases-loop-i
+decreases-loop-i l = l.count - l.i
