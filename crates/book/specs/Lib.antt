@@ -4,5 +4,4 @@ pub mod Book
 pub mod Moves
 pub mod Entries
 pub mod Flows
-pub mod Flowed
 pub mod Owed

@@ -1,2 +1,2 @@
-// The book of demand 3: definitions and laws only, in specs/.
+// The book of demand 3: definitions and laws only, in specs/ and proofs/.
 #![tactic(auto)]

@@ -8,7 +8,7 @@ use lib.IntN.{ℤ, ◌+ℤ◌, ◌-ℤ◌, neg_ℤ, +ℤ_assoc, +ℤ_invr}
 use Rattle.book.specs.Book.{Book, vault_holding, open_book, BookIs}
 use Rattle.book.specs.Entries.{opens}
 use Rattle.book.specs.Flows.{deposited, moved_in_of, paid_out, migrated, flow, migration_takes}
-use Rattle.book.specs.Flowed.{flows, flow_migration}
+use Rattle.book.proofs.Flowed.{flows, flow_migration}
 use Rattle.journal.specs.Calls.{Call, operation, State, Answer}
 use Rattle.journal.specs.Journal.{contents_of}
 use Rattle.journal.specs.Changed.{CellsEntered}

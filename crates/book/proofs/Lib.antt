@@ -1,0 +1,2 @@
+-- How operations move the book.
+pub mod Flowed
