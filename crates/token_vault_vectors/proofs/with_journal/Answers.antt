@@ -1,0 +1,6 @@
+-- `with_journal` meets its contract.
+use borrow.Author.Rules.{rules}
+use Rattle.token_vault_vectors.proofs.with_journal.Goals as goal
+
+pub returns : goal.returns
+returns g c = record { journal = _; listed = c.fit_list.ensures }

@@ -1,0 +1,25 @@
+-- `all_records` meets its contract. The invariant: the records so far are whole, and the image is the one after them.
+use mathlib.Core.Logic.{inl, inr, ⊎_elim}
+use mathlib.Core.Path.{refl, ◌≡◌}
+use Prim.Native.Nat.{◌-◌, ◌≤◌}
+use native.Mathlib.Omega.{arith}
+use lib.ListN.{length}
+use borrow.Author.Tests.{not-true}
+use borrow.Author.Rules.{rules}
+use Rattle.vault_program.proofs.Taken.{Whole, none_taken, all_taken, no_more, last_taken, one_more}
+use Rattle.vault_program.proofs.all_records.Goals as goal
+
+pub loop-taken-init : goal.loop-taken-init
+loop-taken-init g c = (none_taken _, refl, omega arith)
+
+pub returns-then-n-eq0 : goal.returns-then-n-eq0
+returns-then-n-eq0 g c = no_more c.loop-taken.invariant.0 c.next_record-answered.ensures.0 (omega arith)
+
+pub returns-then-n-lt448 : goal.returns-then-n-lt448
+returns-then-n-lt448 g c = last_taken c.loop-taken.invariant.0 c.next_record-answered.ensures.0 (omega arith) (⊎_elim (λ w. inl w) (λ w. inr w.1) c.then-n-lt448.either)
+
+pub loop-taken-preserved : goal.loop-taken-preserved
+loop-taken-preserved g c = (one_more c.loop-taken.invariant.0 c.next_record-answered.ensures.0 (omega arith) (omega arith), search rules, omega arith)
+
+pub returns : goal.returns
+returns g c = all_taken c.loop-taken.invariant.0 (omega arith)

@@ -1,0 +1,16 @@
+-- `all_records` meets its contract. The invariant: the records so far are whole, and the image is the one after them.
+use mathlib.Core.Logic.{inl, inr, ⊎_elim}
+use mathlib.Core.Path.{refl, ◌≡◌}
+use Prim.Native.Nat.{◌-◌, ◌≤◌}
+use native.Mathlib.Omega.{arith}
+use lib.ListN.{length}
+use borrow.Author.Tests.{not-true}
+use borrow.Author.Rules.{rules}
+use Rattle.vault_program.proofs.Taken.{Whole, none_taken, all_taken, no_more, last_taken, one_more}
+use Rattle.vault_program.proofs.all_records.Given as goal
+
+abbrev pub invariant-loop-taken : goal.invariant-loop-taken
+invariant-loop-taken g l = Whole l.initial.image l.image l.taken × (length l.image ≡ length l.initial.image) × (l.taken ≤ 18446744073709551615)
+
+abbrev pub decreases-loop-taken : goal.decreases-loop-taken
+decreases-loop-taken g l = 18446744073709551615 - l.taken

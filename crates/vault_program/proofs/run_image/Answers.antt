@@ -1,0 +1,16 @@
+-- `run_image` meets its contract.
+use mathlib.Core.Path.{refl, sym}
+use native.Mathlib.Omega.{arith}
+use lib.Seq.{length-take-le}
+use borrow.Author.Rules.{rules}
+use Rattle.vault_program.proofs.Taken.{taken_none, taken_whole}
+use Rattle.vault_program.proofs.run_image.Goals as goal
+
+pub slice_bounds-print_answer-end-then-image_read-lt36832 : goal.slice_bounds-print_answer-end-then-image_read-lt36832
+slice_bounds-print_answer-end-then-image_read-lt36832 g c = sym (length-take-le _ _ (omega arith))
+
+pub returns-then-image_read-lt36832 : goal.returns-then-image_read-lt36832
+returns-then-image_read-lt36832 g c = (taken_none _ _ (omega arith) (omega arith) c.print_answer-printed.ensures.0, refl)
+
+pub returns : goal.returns
+returns g c = (taken_whole _ _ (omega arith) c.all_records-records.ensures, refl)
