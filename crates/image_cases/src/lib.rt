@@ -1,4 +1,4 @@
-// Closed images that `goodImage` takes or refuses: definitions in specs/, and the function that carries them.
+// Closed images that `good_image` takes or refuses: definitions in specs/, and the function that carries them.
 #![tactic(auto)]
 
 ghost use Rattle.image_cases.specs.Cases.{GoodCases, DamagedCases};
