@@ -1,7 +1,6 @@
 -- `journal::begin`: 36, or a closed journal with its first byte set.
 use mathlib.Core.Path.{sym, ◌∙◌}
 use native.Mathlib.Omega.{arith}
-use borrow.Author.Rules.{rules}
 use Rattle.journal.proofs.Outcomes.{begin_done}
 use Rattle.journal.proofs.States.{begun_open}
 use Rattle.journal.proofs.Written.{good_long}

@@ -1,5 +1,4 @@
 -- `journal::clear_entries`: the part of the journal that came back all zero.
-use borrow.Author.Rules.{rules}
 use Rattle.journal.proofs.Layouts.{cleared}
 use Rattle.journal.proofs.clear_entries.Goals as goal
 

@@ -1,7 +1,5 @@
 -- `journal::commit`: 35, or all zero.
 use mathlib.Core.Path.{sym, ◌∙◌}
-use borrow.Author.Tests.{not-true, not-false}
-use borrow.Author.Rules.{rules}
 use Rattle.journal.proofs.States.{committed_open, committed-closed}
 use Rattle.journal.specs.Step.{vault}
 use Rattle.journal.proofs.commit.Goals as goal

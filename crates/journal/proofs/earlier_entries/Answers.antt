@@ -1,9 +1,7 @@
 -- `journal::earlier_entries`: with k entries left, those behind them are of the last call.
 use mathlib.Core.Path.{sym, ◌∙◌}
-use Prim.Native.Nat.{◌≤◌}
 use native.Mathlib.Omega.{arith}
-use borrow.Author.Rules.{rules}
-use Rattle.journal.proofs.Backwards.{in_journal, Taken, none_taken, call_turn, stops_none, stops_other}
+use Rattle.journal.proofs.Backwards.{in_journal, none_taken, call_turn, stops_none, stops_other}
 use Rattle.journal.specs.Journal.{contents_of}
 use Rattle.journal.proofs.earlier_entries.Goals as goal
 

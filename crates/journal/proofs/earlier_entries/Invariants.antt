@@ -1,9 +1,6 @@
 -- `journal::earlier_entries`: with k entries left, those behind them are of the last call.
-use mathlib.Core.Path.{sym, ◌∙◌}
 use Prim.Native.Nat.{◌≤◌}
-use native.Mathlib.Omega.{arith}
-use borrow.Author.Rules.{rules}
-use Rattle.journal.proofs.Backwards.{in_journal, Taken, none_taken, call_turn, stops_none, stops_other}
+use Rattle.journal.proofs.Backwards.{Taken}
 use Rattle.journal.specs.Journal.{contents_of}
 use Rattle.journal.proofs.earlier_entries.Given as goal
 

@@ -2,7 +2,6 @@
 use mathlib.Core.Path.{◌≡◌, sym, ◌∙◌}
 use native.Mathlib.Omega.{arith}
 use lib.ListN.{length}
-use borrow.Author.Rules.{rules}
 use Rattle.journal.proofs.Entering.{enter_calls, enter_full, enter-done}
 use Rattle.journal.proofs.Written.{good_long, good_short, good_room, good_few, calls_at, count_at}
 use Rattle.journal.specs.Journal.{contents_of}

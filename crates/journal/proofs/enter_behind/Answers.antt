@@ -4,7 +4,6 @@ use Rattle.journal.specs.Journal.{contents_of, good_journal}
 use Prim.Native.Nat.{ℕ, suc, ◌+◌, ◌*◌, ◌≤◌}
 use native.Mathlib.Omega.{arith}
 use lib.ListN.{length}
-use borrow.Author.Rules.{rules}
 use Rattle.journal.proofs.Entering.{found_counted}
 use Rattle.journal.proofs.Stretches.{found_few}
 use Rattle.journal.proofs.Written.{good_room, good_few, good_calls}

@@ -3,10 +3,8 @@ use mathlib.Core.Path.{◌≡◌, sym, ◌∙◌}
 use Prim.Native.Nat.{◌+◌, ◌*◌, ◌-◌}
 use native.Mathlib.Omega.{arith}
 use lib.ListN.{length-take, length-drop, length}
-use borrow.Author.Tests.{not-false}
-use borrow.Author.Rules.{rules}
 use Rattle.journal.proofs.Exact.{exact}
-use Rattle.journal.proofs.Stretches.{Walked, walk_starts, walk_ends, found_few, stretch_same, stretch_found}
+use Rattle.journal.proofs.Stretches.{walk_starts, walk_ends, found_few, stretch_same, stretch_found}
 use Rattle.journal.proofs.enter_cells.Goals as goal
 
 pub loop-k-init : goal.loop-k-init

@@ -3,9 +3,7 @@ use mathlib.Core.Path.{◌≡◌, sym, ◌∙◌}
 use Prim.Native.Nat.{◌+◌, ◌*◌, ◌-◌}
 use native.Mathlib.Omega.{arith}
 use lib.ListN.{length-take, length-drop}
-use borrow.Author.Tests.{not-true, not-false}
-use borrow.Author.Rules.{rules}
-use Rattle.journal.proofs.Stretches.{Walked, walk_starts, walk_ends, walk_same, walk_full, walk_writes}
+use Rattle.journal.proofs.Stretches.{walk_starts, walk_ends, walk_same, walk_full, walk_writes}
 use Rattle.journal.proofs.enter_stretch.Goals as goal
 
 pub loop-k-init : goal.loop-k-init

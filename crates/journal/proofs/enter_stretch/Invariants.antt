@@ -1,11 +1,6 @@
 -- `journal::enter_stretch`: a walk over the cells.
-use mathlib.Core.Path.{◌≡◌, sym, ◌∙◌}
-use Prim.Native.Nat.{◌+◌, ◌*◌, ◌-◌}
-use native.Mathlib.Omega.{arith}
-use lib.ListN.{length-take, length-drop}
-use borrow.Author.Tests.{not-true, not-false}
-use borrow.Author.Rules.{rules}
-use Rattle.journal.proofs.Stretches.{Walked, walk_starts, walk_ends, walk_same, walk_full, walk_writes}
+use Prim.Native.Nat.{◌-◌}
+use Rattle.journal.proofs.Stretches.{Walked}
 use Rattle.journal.proofs.enter_stretch.Given as goal
 
 abbrev pub invariant-loop-k : goal.invariant-loop-k

@@ -1,10 +1,8 @@
 -- `journal::good_entries`: what is left of the test is the whole test.
 use mathlib.Core.Path.{◌≡◌, ap, ◌∙◌}
-use Prim.Native.Nat.{suc, ◌≤◌, ◌-◌, ◌*◌}
+use Prim.Native.Nat.{◌-◌}
 use native.Mathlib.Omega.{arith}
 use lib.ListN.{drop}
-use borrow.Author.Tests.{not-true, not-false}
-use borrow.Author.Rules.{rules}
 use Rattle.journal.proofs.Scanned.{turn_stops, turn_goes, turn_ends}
 use Rattle.journal.specs.Scan.{scan_entries}
 use Rattle.journal.proofs.good_entries.Goals as goal

@@ -1,6 +1,5 @@
 -- `journal::good_head`: the tests, joined as in the definition.
 use native.Mathlib.Numerals.{add-one}
-use borrow.Author.Rules.{rules}
 use Rattle.journal.specs.Scan.{scan_head}
 use Rattle.journal.proofs.good_head.Goals as goal
 

@@ -2,8 +2,6 @@
 use mathlib.Core.Path.{sym, ◌∙◌}
 use native.Mathlib.Omega.{arith}
 use lib.ListN.{length}
-use borrow.Author.Tests.{not-true, not-false}
-use borrow.Author.Rules.{rules}
 use Rattle.journal.proofs.Scanned.{head_room, bad_length, bad_head, entries_decide}
 use Rattle.journal.proofs.Written.{fits_long}
 use Rattle.journal.proofs.good_journal.Goals as goal

@@ -1,5 +1,4 @@
 -- `journal::good_length`: the tests, joined as in the definition.
-use borrow.Author.Rules.{rules}
 use Rattle.journal.specs.Journal.{fits}
 use Rattle.journal.proofs.good_length.Goals as goal
 

@@ -1,5 +1,4 @@
 -- `journal::in_order`: the tests, joined as in the definition.
-use borrow.Author.Rules.{rules}
 use Rattle.journal.specs.Scan.{in_order_of}
 use Rattle.journal.proofs.in_order.Goals as goal
 

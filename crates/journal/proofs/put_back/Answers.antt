@@ -1,12 +1,10 @@
 -- `journal::put_back`: with k entries left, those behind them are put back.
-use mathlib.Core.Path.{◌≡◌, refl, ap, ◌∙◌}
-use Prim.Native.Nat.{◌≤◌, ◌+◌, ◌*◌, ◌-◌}
+use mathlib.Core.Path.{refl, ap, ◌∙◌}
+use Prim.Native.Nat.{◌+◌, ◌*◌, ◌-◌}
 use native.Mathlib.Nat.{le_antisymm}
 use native.Mathlib.Omega.{arith}
 use lib.Seq.{drop-length}
-use lib.ListN.{length, drop}
 use borrow.Rule.Slice.PartMut.{same_len_mid}
-use borrow.Author.Rules.{rules}
 use Rattle.journal.proofs.Backwards.{in_journal, in_image, put_turn}
 use Rattle.journal.specs.Journal.{contents_of, restore}
 use Rattle.journal.proofs.put_back.Goals as goal

@@ -3,7 +3,6 @@ use mathlib.Core.List.{append-nil}
 use mathlib.Core.Path.{ap}
 use native.Mathlib.Omega.{arith}
 use lib.ListN.{length}
-use borrow.Author.Rules.{rules}
 use Rattle.journal.proofs.put_entry.Goals as goal
 
 pub slice_bounds-copy_bytes-end : goal.slice_bounds-copy_bytes-end

@@ -1,8 +1,6 @@
 -- `journal::rollback`: 35, or every entry put back.
 use mathlib.Core.Path.{sym, ◌∙◌}
 use native.Mathlib.Omega.{arith}
-use borrow.Author.Tests.{not-true, not-false}
-use borrow.Author.Rules.{rules}
 use Rattle.journal.proofs.States.{rolled_open, rolled_closed}
 use Rattle.journal.proofs.Written.{good_long, count_at}
 use Rattle.journal.specs.Step.{vault}

@@ -1,8 +1,6 @@
 -- `journal::undo`: 35, 37, or the last call's entries put back and zeroed.
 use mathlib.Core.Path.{sym, ◌∙◌}
 use native.Mathlib.Omega.{arith}
-use borrow.Author.Tests.{not-true, not-false}
-use borrow.Author.Rules.{rules}
 use Rattle.journal.proofs.Outcomes.{undo_done}
 use Rattle.journal.proofs.States.{undone_open, undone-closed}
 use Rattle.journal.proofs.Written.{good_long, good_room, calls_at, count_at}

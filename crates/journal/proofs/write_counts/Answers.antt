@@ -1,5 +1,4 @@
 -- `journal::write_counts`: one number after the other.
-use borrow.Author.Rules.{rules}
 use Rattle.journal.proofs.write_counts.Goals as goal
 
 pub returns : goal.returns
