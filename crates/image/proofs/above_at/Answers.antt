@@ -1,6 +1,5 @@
 -- `image::above_at` meets its contract.
 use Rattle.image.specs.Laws.{sign_two}
-use borrow.Author.Rules.{rules}
 use Rattle.image.proofs.above_at.Goals as goal
 
 pub returns : goal.returns

@@ -1,7 +1,6 @@
 -- `image::above_where` meets its contract.
 use mathlib.Core.Path.{sym, ◌∙◌}
 use Rattle.image.specs.Good.{above_where}
-use borrow.Author.Rules.{rules}
 use Rattle.image.proofs.above_where.Goals as goal
 
 pub returns-then-bit_of : goal.returns-then-bit_of

@@ -1,11 +1,7 @@
 -- `image::fresh_keys` meets its contract.
-use mathlib.Core.Path.{◌≡◌}
-use mathlib.Core.Bool.{true}
-use Prim.Native.Nat.{◌-◌, ◌≤◌}
-use lib.ListN.{length}
-use Rattle.fields.specs.Logic.{all, all_none, all-step, all_stop, all_end}
+use Rattle.fields.specs.Logic.{all_none, all-step, all_stop, all_end}
 use Rattle.image.specs.Good.{fresh_key}
-use Rattle.image.specs.Laws.{Seen, seen_none, seen_step, stale_far, stale_seen, fresh_new}
+use Rattle.image.specs.Laws.{seen_none, seen_step, stale_far, stale_seen, fresh_new}
 use borrow.Author.Rules.{rules}
 use Rattle.image.proofs.fresh_keys.Goals as goal
 

@@ -3,10 +3,9 @@ use mathlib.Core.Path.{◌≡◌}
 use mathlib.Core.Bool.{true}
 use Prim.Native.Nat.{◌-◌, ◌≤◌}
 use lib.ListN.{length}
-use Rattle.fields.specs.Logic.{all, all_none, all-step, all_stop, all_end}
+use Rattle.fields.specs.Logic.{all}
 use Rattle.image.specs.Good.{fresh_key}
-use Rattle.image.specs.Laws.{Seen, seen_none, seen_step, stale_far, stale_seen, fresh_new}
-use borrow.Author.Rules.{rules}
+use Rattle.image.specs.Laws.{Seen}
 use Rattle.image.proofs.fresh_keys.Given as goal
 
 abbrev pub invariant-loop-i : goal.invariant-loop-i

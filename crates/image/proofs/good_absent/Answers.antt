@@ -1,6 +1,5 @@
 -- `image::good_absent` meets its contract.
 use Rattle.image.specs.Good.{good_absent}
-use borrow.Author.Rules.{rules}
 use Rattle.image.proofs.good_absent.Goals as goal
 
 pub returns : goal.returns

@@ -1,6 +1,5 @@
 -- `image::good_addresses` meets its contract.
 use Rattle.image.specs.Good.{good_addresses}
-use borrow.Author.Rules.{rules}
 use Rattle.image.proofs.good_addresses.Goals as goal
 
 pub returns : goal.returns

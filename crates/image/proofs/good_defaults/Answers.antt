@@ -5,7 +5,6 @@ use borrow.Author.Tests.{le-leb, lt-leb}
 use Rattle.fields.specs.Logic.{false_and, true_and}
 use Rattle.fields.specs.Bytes.{le}
 use Rattle.image.specs.Good.{good_defaults}
-use borrow.Author.Rules.{rules}
 use Rattle.image.proofs.good_defaults.Goals as goal
 
 pub returns-then-t-lt48 : goal.returns-then-t-lt48

@@ -6,7 +6,6 @@ use lib.ListN.{length, get_or}
 use Rattle.fields.specs.Logic.{false_and, true_and}
 use Rattle.image.specs.Good.{good_image}
 use Rattle.fields.specs.Bytes.{bytes_from}
-use borrow.Author.Rules.{rules}
 use Rattle.image.proofs.good_image.Goals as goal
 
 pub returns-then-s-ne36832 : goal.returns-then-s-ne36832

@@ -2,7 +2,6 @@
 use borrow.Author.Tests.{le-leb, lt-leb}
 use Rattle.fields.specs.Logic.{false_and, true_and}
 use Rattle.image.specs.Good.{good_keys}
-use borrow.Author.Rules.{rules}
 use Rattle.image.proofs.good_keys.Goals as goal
 
 pub returns-then-n-gt1088 : goal.returns-then-n-gt1088

@@ -1,6 +1,5 @@
 -- `image::good_migration` meets its contract.
 use Rattle.image.specs.Good.{good_migration}
-use borrow.Author.Rules.{rules}
 use Rattle.image.proofs.good_migration.Goals as goal
 
 pub returns : goal.returns

@@ -1,6 +1,5 @@
 -- `image::good_options` meets its contract.
 use Rattle.image.specs.Good.{good_options}
-use borrow.Author.Rules.{rules}
 use Rattle.image.proofs.good_options.Goals as goal
 
 pub returns : goal.returns

@@ -1,6 +1,5 @@
 -- `image::good_pending` meets its contract.
 use Rattle.image.specs.Good.{good_pending}
-use borrow.Author.Rules.{rules}
 use Rattle.image.proofs.good_pending.Goals as goal
 
 pub returns : goal.returns

@@ -1,6 +1,5 @@
 -- `image::good_present` meets its contract.
 use Rattle.image.specs.Good.{good_present}
-use borrow.Author.Rules.{rules}
 use Rattle.image.proofs.good_present.Goals as goal
 
 pub returns : goal.returns

@@ -1,6 +1,5 @@
 -- `image::good_snapshot` meets its contract.
 use Rattle.image.specs.Good.{good_snapshot}
-use borrow.Author.Rules.{rules}
 use Rattle.image.proofs.good_snapshot.Goals as goal
 
 pub returns : goal.returns

@@ -5,7 +5,6 @@ use native.Mathlib.Omega.{arith}
 use borrow.Author.Tests.{eq-eqb, ne_eqb}
 use Rattle.fields.specs.Bytes.{le}
 use Rattle.image.specs.Good.{good_token}
-use borrow.Author.Rules.{rules}
 use Rattle.image.proofs.good_token.Goals as goal
 
 pub returns-then-k-eq0 : goal.returns-then-k-eq0

@@ -1,11 +1,9 @@
 -- `image::good_tokens` meets its contract.
-use mathlib.Core.Path.{◌≡◌, sym, ◌∙◌}
+use mathlib.Core.Path.{◌≡◌}
 use mathlib.Core.Bool.{true}
 use Prim.Native.Nat.{◌-◌, ◌≤◌}
-use borrow.Author.Tests.{not-true, not-false}
-use Rattle.fields.specs.Logic.{all, all_none, all-step, all_stop, all_end}
+use Rattle.fields.specs.Logic.{all}
 use Rattle.image.specs.Good.{good_token}
-use borrow.Author.Rules.{rules}
 use Rattle.image.proofs.good_tokens.Given as goal
 
 abbrev pub invariant-loop-t : goal.invariant-loop-t

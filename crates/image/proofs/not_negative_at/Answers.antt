@@ -1,6 +1,5 @@
 -- `image::not_negative_at` meets its contract.
 use Rattle.image.specs.Laws.{sign_some}
-use borrow.Author.Rules.{rules}
 use Rattle.image.proofs.not_negative_at.Goals as goal
 
 pub returns : goal.returns

@@ -1,11 +1,6 @@
 -- `image::not_negatives` meets its contract.
-use mathlib.Core.Path.{sym}
 use Prim.Native.Nat.{ℕ, ◌+◌, ◌-◌, ◌*◌, ◌≤◌, ◌<◌}
-use native.Mathlib.Omega.{arith}
-use borrow.Author.Count.{below_more}
 use Rattle.amount.specs.Biased.{bias, amount_at}
-use Rattle.image.specs.Laws.{not_negatives_from, sign_off, sign_on, not_negatives_stop}
-use borrow.Author.Rules.{rules}
 use Rattle.image.proofs.not_negatives.Given as goal
 
 abbrev pub invariant-loop-i : goal.invariant-loop-i

@@ -2,7 +2,6 @@
 use Rattle.image.specs.Laws.{both_zero}
 use native.Mathlib.Omega.{arith}
 use mathlib.Core.Path.{◌∙◌}
-use borrow.Author.Rules.{rules}
 use Rattle.image.proofs.nothing_at.Goals as goal
 
 pub returns : goal.returns

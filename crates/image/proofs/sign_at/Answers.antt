@@ -1,5 +1,4 @@
 -- `image::sign_at` meets its contract.
-use borrow.Author.Rules.{rules}
 use Rattle.image.proofs.sign_at.Goals as goal
 
 pub returns : goal.returns
