@@ -7,7 +7,6 @@ use mathlib.Core.Bool.{not}
 use Prim.Native.Nat.{ℕ, ◌<◌}
 use lib.ListN.{get_or}
 use Rattle.fields.specs.Bytes.{bytes_from}
-use borrow.Author.Rules.{rules}
 use Rattle.record.proofs.form_check.Goals as goal
 
 pub returns-then-rec-ne448 : goal.returns-then-rec-ne448

@@ -1,6 +1,5 @@
 -- `record::head_exceeds` meets its contract.
 use Rattle.record.specs.Form.{head_exceeds}
-use borrow.Author.Rules.{rules}
 use Rattle.record.proofs.head_exceeds.Goals as goal
 
 pub returns : goal.returns

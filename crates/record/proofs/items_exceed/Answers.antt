@@ -3,7 +3,6 @@ use Rattle.record.proofs.Items.{unread, many, read_within, read_beyond}
 use Rattle.record.specs.Form.{reads_items, items_within, items_exceed}
 use Rattle.record.specs.Record.{operation_of, item_count_of}
 use native.Mathlib.Omega.{arith}
-use borrow.Author.Rules.{rules}
 use Rattle.record.proofs.items_exceed.Goals as goal
 
 pub returns-then-count-gt16 : goal.returns-then-count-gt16

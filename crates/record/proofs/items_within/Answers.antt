@@ -4,9 +4,6 @@ use Rattle.record.specs.Form.{item_within, items_within}
 use Rattle.fields.specs.Logic.{all_none, all-step, all_stop, all_end}
 use borrow.Author.Tests.{lt-ltb, le-ltb}
 use native.Mathlib.Omega.{arith}
-use Prim.Native.Nat.{◌≤◌, ◌-◌}
-use mathlib.Core.Bool.{true}
-use mathlib.Core.Path.{◌≡◌}
 use borrow.Author.Rules.{rules}
 use Rattle.record.proofs.items_within.Goals as goal
 

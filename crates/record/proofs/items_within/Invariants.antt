@@ -1,13 +1,8 @@
 -- `record::items_within` meets its contract.
-use Rattle.record.specs.Record.{item_address}
-use Rattle.record.specs.Form.{item_within, items_within}
-use Rattle.fields.specs.Logic.{all_none, all-step, all_stop, all_end}
-use borrow.Author.Tests.{lt-ltb, le-ltb}
-use native.Mathlib.Omega.{arith}
+use Rattle.record.specs.Form.{items_within}
 use Prim.Native.Nat.{◌≤◌, ◌-◌}
 use mathlib.Core.Bool.{true}
 use mathlib.Core.Path.{◌≡◌}
-use borrow.Author.Rules.{rules}
 use Rattle.record.proofs.items_within.Given as goal
 
 abbrev pub invariant-loop-i : goal.invariant-loop-i
