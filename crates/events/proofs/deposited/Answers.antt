@@ -1,7 +1,6 @@
 -- `events::deposited` meets its contract.
 use Rattle.events.specs.Event.{fields_of}
 use Rattle.events.specs.Kinds.{deposited_event}
-use borrow.Author.Rules.{rules}
 use Rattle.events.proofs.deposited.Goals as goal
 
 pub returns : goal.returns

@@ -1,7 +1,6 @@
 -- `events::emergency_migration_cancelled` meets its contract.
 use Rattle.events.specs.Event.{fields_of}
 use Rattle.events.specs.Kinds.{emergency_migration_cancelled_event}
-use borrow.Author.Rules.{rules}
 use Rattle.events.proofs.emergency_migration_cancelled.Goals as goal
 
 pub returns : goal.returns

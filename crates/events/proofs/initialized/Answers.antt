@@ -1,7 +1,6 @@
 -- `events::initialized` meets its contract.
 use Rattle.events.specs.Event.{fields_of}
 use Rattle.events.specs.Kinds.{initialized_event}
-use borrow.Author.Rules.{rules}
 use Rattle.events.proofs.initialized.Goals as goal
 
 pub returns : goal.returns

@@ -1,7 +1,6 @@
 -- `events::operator_revoked` meets its contract.
 use Rattle.events.specs.Event.{fields_of}
 use Rattle.events.specs.Kinds.{operator_revoked_event}
-use borrow.Author.Rules.{rules}
 use Rattle.events.proofs.operator_revoked.Goals as goal
 
 pub returns : goal.returns

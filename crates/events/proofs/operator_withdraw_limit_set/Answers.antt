@@ -1,7 +1,6 @@
 -- `events::operator_withdraw_limit_set` meets its contract.
 use Rattle.events.specs.Event.{fields_of}
 use Rattle.events.specs.Kinds.{operator_withdraw_limit_set_event}
-use borrow.Author.Rules.{rules}
 use Rattle.events.proofs.operator_withdraw_limit_set.Goals as goal
 
 pub returns : goal.returns

@@ -1,7 +1,6 @@
 -- `events::owner_accepted` meets its contract.
 use Rattle.events.specs.Event.{fields_of}
 use Rattle.events.specs.Kinds.{owner_accepted_event}
-use borrow.Author.Rules.{rules}
 use Rattle.events.proofs.owner_accepted.Goals as goal
 
 pub returns : goal.returns

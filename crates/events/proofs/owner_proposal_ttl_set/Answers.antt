@@ -1,7 +1,6 @@
 -- `events::owner_proposal_ttl_set` meets its contract.
 use Rattle.events.specs.Event.{fields_of}
 use Rattle.events.specs.Kinds.{owner_proposal_ttl_set_event}
-use borrow.Author.Rules.{rules}
 use Rattle.events.proofs.owner_proposal_ttl_set.Goals as goal
 
 pub returns : goal.returns

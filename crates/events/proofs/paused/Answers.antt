@@ -1,7 +1,6 @@
 -- `events::paused` meets its contract.
 use Rattle.events.specs.Event.{fields_of}
 use Rattle.events.specs.Kinds.{paused_event}
-use borrow.Author.Rules.{rules}
 use Rattle.events.proofs.paused.Goals as goal
 
 pub returns : goal.returns

@@ -1,7 +1,6 @@
 -- `events::token_approval_changed` meets its contract.
 use Rattle.events.specs.Event.{fields_of}
 use Rattle.events.specs.Kinds.{token_approval_changed_event}
-use borrow.Author.Rules.{rules}
 use Rattle.events.proofs.token_approval_changed.Goals as goal
 
 pub returns : goal.returns

@@ -1,7 +1,6 @@
 -- `events::unpaused` meets its contract.
 use Rattle.events.specs.Event.{fields_of}
 use Rattle.events.specs.Kinds.{unpaused_event}
-use borrow.Author.Rules.{rules}
 use Rattle.events.proofs.unpaused.Goals as goal
 
 pub returns : goal.returns

@@ -1,7 +1,6 @@
 -- `events::vault_deposit_failed` meets its contract.
 use Rattle.events.specs.Event.{fields_of}
 use Rattle.events.specs.Kinds.{vault_deposit_failed_event}
-use borrow.Author.Rules.{rules}
 use Rattle.events.proofs.vault_deposit_failed.Goals as goal
 
 pub returns : goal.returns

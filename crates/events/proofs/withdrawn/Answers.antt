@@ -1,7 +1,6 @@
 -- `events::withdrawn` meets its contract.
 use Rattle.events.specs.Event.{fields_of}
 use Rattle.events.specs.Kinds.{withdrawn_event}
-use borrow.Author.Rules.{rules}
 use Rattle.events.proofs.withdrawn.Goals as goal
 
 pub returns : goal.returns
