@@ -1,5 +1,5 @@
 -- What a good image is, as facts, and that they are the test.
-use Rattle.std.specs.Prelude.{◌≡◌, refl, Bool, true, false, not, List, ℕ, zero, suc, ◌+◌, ◌-◌, ◌*◌, ◌/◌, ◌%◌, ◌^◌, ◌≤◌, ◌<◌, eqb, ltb, leb, length, get_or, set}
+use Rattle.std.specs.Prelude.{◌≡◌, refl, Bool, true, false, not, List, ℕ, zero, suc, ◌+◌, ◌-◌, ◌*◌, ◌/◌, ◌%◌, ◌^◌, ◌≤◌, ◌<◌, eqb, ltb, leb, length, get_or}
 use Rattle.std.proofs.Common.{sym, ap, ◌∙◌, arith, add-zero, add-suc, eqb-true, eq-eqb, ne_eqb, lt-ltb, le-leb, ltb-true, leb-true}
 use Rattle.std.proofs.lemmas.Bool.{eqb-false, not-true}
 use Rattle.image.specs.Layout.{tracked_key_at, holdings_at, credits_at, bit, flags, owner, default_token, operator, pending_owner, proposer, destination, proposed_at, time_to_live, migration_proposed_at, executable_at, capped_set, tracked_count, vault_limit, operator_limit, cap, toll, kind, tracked_key, snapshot_present, snapshot_ledger, snapshot_holding, holding, credit, initialised, is_capped}

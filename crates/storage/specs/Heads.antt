@@ -1,7 +1,7 @@
 -- Writes in the head: each law is `good_head` at the values that stand there after.
 use Rattle.std.specs.Prelude.{◌≡◌, refl, List, ℕ, ◌+◌, ◌-◌, ◌^◌, ◌≤◌, ◌<◌}
 use Rattle.std.proofs.Common.{sym, ◌∙◌, arith}
-use Rattle.image.specs.Layout.{flags, owner, default_token, operator, pending_owner, proposer, destination, time_to_live, vault_limit, operator_limit, kind, initialised, with_bit, without_bit}
+use Rattle.image.specs.Layout.{flags, kind, initialised, with_bit, without_bit}
 use Rattle.amount.specs.Frame.{only_put_amount, zero_amount_at}
 use Rattle.amount.specs.Laws.{length-put_amount, amount_at-put_amount}
 use Rattle.amount.specs.Biased.{bias, amount_at, put_amount}

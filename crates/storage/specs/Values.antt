@@ -1,7 +1,7 @@
 -- The head's fields with some values changed.
 use Rattle.std.specs.Prelude.{◌≡◌, ℕ, ◌<◌}
 use Rattle.std.proofs.Common.{sym, ◌∙◌}
-use Rattle.image.specs.Layout.{bit, owner, default_token, operator, pending_owner, proposer, destination, time_to_live, vault_limit, operator_limit}
+use Rattle.image.specs.Layout.{bit}
 use Rattle.amount.specs.Biased.{bias}
 use Rattle.storage.specs.Facts.{Fields}
 

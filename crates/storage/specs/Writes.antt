@@ -1,5 +1,5 @@
 -- One law for each kind of write: a good image stays good.
-use Rattle.std.specs.Prelude.{◌≡◌, List, ℕ, ◌+◌, ◌*◌, ◌%◌, ◌^◌, ◌≤◌, ◌<◌, length, set}
+use Rattle.std.specs.Prelude.{◌≡◌, List, ℕ, ◌+◌, ◌*◌, ◌%◌, ◌^◌, ◌≤◌, ◌<◌, length}
 use Rattle.std.proofs.Common.{sym, ap, ◌∙◌, arith, mod-lt, le_antisymm, lit<}
 use Rattle.image.specs.Layout.{cap_at, snapshot_at, tracked_key_at, token_at, toll_at, holdings_at, holding_at, credits_at, credit_at, bit, capped_set, tracked_count, cap, kind, tracked_key, snapshot_present, initialised, is_capped, with_bit, holding, credit, default_token}
 use Rattle.amount.specs.Frame.{only_put_amount, same-amount_at}

@@ -3,7 +3,6 @@ use Rattle.storage.specs.Setters.{snapshot_number}
 use Rattle.fields.specs.Rules.{stop_at}
 use native.Mathlib.Omega.{arith}
 use mathlib.Core.Path.{refl}
-use borrow.Author.Rules.{rules}
 use Rattle.storage.proofs.check_vault_balance.Goals as goal
 
 pub returns-then-get32-ne1 : goal.returns-then-get32-ne1

@@ -1,5 +1,4 @@
 -- `storage::clear_flag` meets its contract.
-use borrow.Author.Rules.{rules}
 use Rattle.storage.proofs.clear_flag.Goals as goal
 
 pub returns : goal.returns

@@ -3,8 +3,7 @@ use Rattle.storage.specs.Room.{there, none_yet, none_more}
 use Rattle.image.specs.Good.{tracked}
 use Rattle.image.specs.Layout.{tracked_count}
 use native.Mathlib.Omega.{arith}
-use Prim.Native.Nat.{ℕ, ◌≤◌, ◌-◌}
-use mathlib.Core.Bool.{false}
+use Prim.Native.Nat.{ℕ}
 use mathlib.Core.Path.{◌≡◌, sym, ap, ◌∙◌}
 use borrow.Author.Rules.{rules}
 use Rattle.storage.proofs.is_tracked.Goals as goal

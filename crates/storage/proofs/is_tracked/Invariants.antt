@@ -1,12 +1,8 @@
 -- `storage::is_tracked` meets its contract.
-use Rattle.storage.specs.Room.{there, none_yet, none_more}
 use Rattle.image.specs.Good.{tracked}
-use Rattle.image.specs.Layout.{tracked_count}
-use native.Mathlib.Omega.{arith}
-use Prim.Native.Nat.{ℕ, ◌≤◌, ◌-◌}
+use Prim.Native.Nat.{◌≤◌, ◌-◌}
 use mathlib.Core.Bool.{false}
-use mathlib.Core.Path.{◌≡◌, sym, ap, ◌∙◌}
-use borrow.Author.Rules.{rules}
+use mathlib.Core.Path.{◌≡◌}
 use Rattle.storage.proofs.is_tracked.Given as goal
 
 abbrev pub invariant-loop-i : goal.invariant-loop-i

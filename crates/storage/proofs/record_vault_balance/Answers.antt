@@ -1,6 +1,5 @@
 -- `storage::record_vault_balance` meets its contract.
 use Rattle.storage.specs.Setters.{record_balance}
-use borrow.Author.Rules.{rules}
 use Rattle.storage.proofs.record_vault_balance.Goals as goal
 
 pub returns : goal.returns

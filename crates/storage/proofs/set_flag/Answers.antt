@@ -1,7 +1,6 @@
 -- `storage::set_flag` meets its contract.
 use Rattle.storage.specs.Flags.{flag_on}
 use native.Mathlib.Omega.{arith}
-use borrow.Author.Rules.{rules}
 use Rattle.storage.proofs.set_flag.Goals as goal
 
 pub overflow_cast-with_bit : goal.overflow_cast-with_bit

@@ -2,7 +2,6 @@
 use Rattle.storage.specs.Kept.{tracked_already, tracked_anew, key_room}
 use native.Mathlib.Omega.{arith}
 use mathlib.Core.Path.{sym, ◌∙◌}
-use borrow.Author.Rules.{rules}
 use Rattle.storage.proofs.track_vault_key.Goals as goal
 
 pub returns-then-is_tracked : goal.returns-then-is_tracked

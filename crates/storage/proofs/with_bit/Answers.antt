@@ -4,7 +4,6 @@ use Rattle.image.specs.Layout.{bit}
 use native.Mathlib.Omega.{arith}
 use Prim.Native.Nat.{ℕ, ◌+◌}
 use mathlib.Core.Path.{◌≡◌, sym, ap, ◌∙◌}
-use borrow.Author.Rules.{rules}
 use Rattle.storage.proofs.with_bit.Goals as goal
 
 pub returns-then-set-k-eq1 : goal.returns-then-set-k-eq1
