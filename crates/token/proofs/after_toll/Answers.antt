@@ -1,7 +1,6 @@
 -- `token::after_toll` meets its contract.
 use Rattle.token.proofs.Steps.{toll_range}
 use native.Mathlib.Omega.{arith}
-use borrow.Author.Rules.{rules}
 use Rattle.token.proofs.after_toll.Goals as goal
 
 pub arrives-requires : goal.arrives-requires

@@ -1,7 +1,6 @@
 -- `token::arrives` meets its contract.
 use Rattle.token.specs.Token.{arrives}
 use native.Mathlib.Omega.{arith}
-use borrow.Author.Rules.{rules}
 use Rattle.token.proofs.arrives.Goals as goal
 
 pub returns-then-below-ne0 : goal.returns-then-below-ne0

@@ -3,7 +3,6 @@ use Rattle.token.specs.Token.{transfer_number, received}
 use Rattle.fields.specs.Rules.{stop_at}
 use native.Mathlib.Omega.{arith}
 use mathlib.Core.Path.{refl}
-use borrow.Author.Rules.{rules}
 use Rattle.token.proofs.transfer_check.Goals as goal
 
 pub returns-then-t-lt48 : goal.returns-then-t-lt48
