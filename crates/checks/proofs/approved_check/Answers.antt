@@ -3,7 +3,6 @@ use Rattle.checks.specs.Checks.{approved_number}
 use Rattle.fields.specs.Rules.{stop_at}
 use native.Mathlib.Omega.{arith}
 use mathlib.Core.Path.{refl}
-use borrow.Author.Rules.{rules}
 use Rattle.checks.proofs.approved_check.Goals as goal
 
 pub returns-then-has-ne1 : goal.returns-then-has-ne1

@@ -1,6 +1,5 @@
 -- `checks::flag_of` meets its contract.
 use Rattle.checks.specs.Checks.{flag}
-use borrow.Author.Rules.{rules}
 use Rattle.checks.proofs.flag_of.Goals as goal
 
 pub returns : goal.returns

@@ -3,7 +3,6 @@ use Rattle.checks.specs.Checks.{funds_number}
 use Rattle.fields.specs.Rules.{stop_at}
 use native.Mathlib.Omega.{arith}
 use mathlib.Core.Path.{refl}
-use borrow.Author.Rules.{rules}
 use Rattle.checks.proofs.funds_check.Goals as goal
 
 pub returns-then-below-ne0 : goal.returns-then-below-ne0

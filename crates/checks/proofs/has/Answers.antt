@@ -1,7 +1,6 @@
 -- `checks::has` meets its contract.
 use mathlib.Core.Path.{refl}
 use Rattle.checks.specs.Checks.{in_set}
-use borrow.Author.Rules.{rules}
 use Rattle.checks.proofs.has.Goals as goal
 
 pub returns : goal.returns

@@ -3,7 +3,6 @@ use Rattle.checks.specs.Checks.{insider_role_number}
 use Rattle.fields.specs.Rules.{stop_at}
 use native.Mathlib.Omega.{arith}
 use mathlib.Core.Path.{refl}
-use borrow.Author.Rules.{rules}
 use Rattle.checks.proofs.insider_role_check.Goals as goal
 
 pub returns-then-is_insider-ne1 : goal.returns-then-is_insider-ne1

@@ -3,7 +3,6 @@ use Rattle.checks.specs.Checks.{limit_number}
 use Rattle.fields.specs.Rules.{stop_at}
 use native.Mathlib.Omega.{arith}
 use mathlib.Core.Path.{refl}
-use borrow.Author.Rules.{rules}
 use Rattle.checks.proofs.limit_check.Goals as goal
 
 pub returns-then-passes-ne0 : goal.returns-then-passes-ne0

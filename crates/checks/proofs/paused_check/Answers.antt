@@ -3,7 +3,6 @@ use Rattle.checks.specs.Checks.{paused_number}
 use Rattle.fields.specs.Rules.{stop_at}
 use native.Mathlib.Omega.{arith}
 use mathlib.Core.Path.{refl}
-use borrow.Author.Rules.{rules}
 use Rattle.checks.proofs.paused_check.Goals as goal
 
 pub returns-then-flag_of-ne0 : goal.returns-then-flag_of-ne0
