@@ -4,7 +4,6 @@ use Rattle.events.specs.Buffer.{appended}
 use native.Mathlib.Omega.{arith}
 use mathlib.Core.List.{[]}
 use mathlib.Core.Path.{refl}
-use borrow.Author.Rules.{rules}
 use Rattle.outcome.proofs.announce_value.Goals as goal
 
 pub put_event-requires : goal.put_event-requires
