@@ -2,4 +2,3 @@
 pub mod Batch
 pub mod Laws
 pub mod Moved
-pub mod Owed

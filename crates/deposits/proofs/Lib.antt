@@ -1,3 +1,6 @@
 -- Lemmas for the functions' proofs.
 pub mod Steps
 pub mod Whole
+pub mod Laws
+pub mod Moved
+pub mod Owed

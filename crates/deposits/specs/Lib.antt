@@ -3,5 +3,3 @@ pub mod Deposit
 pub mod Report
 pub mod TokenDeposit
 pub mod Laws
-pub mod Moved
-pub mod Owed

@@ -13,7 +13,7 @@ use Rattle.image.specs.Layout.{default_token, destination}
 use Rattle.amount.specs.Biased.{bias, biased}
 use Rattle.fields.specs.Rules.{link_at_lem}
 use Rattle.migration.specs.Migration.{execute_checks, migrate_number, migrate_holding, execute_number, clear_migration, execute_outcome}
-use Rattle.migration.specs.Laws.{held_none, held_some}
+use Rattle.migration.proofs.Laws.{held_none, held_some}
 
 -- n is the vault's holding as it was read, t the default token, to the destination
 module _ (l : List ℕ) {n : ℕ} (e : n ≡ vault_balance l) where

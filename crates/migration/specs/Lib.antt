@@ -1,5 +1,2 @@
 -- Definitions and laws of the emergency migration.
 pub mod Migration
-pub mod Laws
-pub mod Moved
-pub mod Owed

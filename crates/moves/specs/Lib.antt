@@ -1,4 +1,3 @@
 -- Definitions and laws of the operations outside the vault.
 pub mod Outside
 pub mod Laws
-pub mod Owed

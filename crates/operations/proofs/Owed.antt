@@ -7,14 +7,14 @@ use native.Mathlib.Omega.{arith}
 use borrow.Author.Tests.{eqb-true, eqb-false}
 use lib.Dec.{eqb}
 use Rattle.views.specs.Views.{balance_outcome, effective_outcome, account_outcome, approved_outcome, compliant_outcome}
-use Rattle.moves.specs.Owed.{outside_move_owed, freeze_owed}
-use Rattle.migration.specs.Owed.{initiate_emergency_migration_owed, execute_emergency_migration_owed, cancel_emergency_migration_owed}
+use Rattle.moves.proofs.Owed.{outside_move_owed, freeze_owed}
+use Rattle.migration.proofs.Owed.{initiate_emergency_migration_owed, execute_emergency_migration_owed, cancel_emergency_migration_owed}
 use Rattle.handover.specs.Owed.{propose_owner_owed, accept_owner_owed, set-owner_proposal_ttl_owed}
-use Rattle.payouts.specs.Owed.{withdraw_owed, withdraw_batch_owed, withdraw-token_owed}
+use Rattle.payouts.proofs.Owed.{withdraw_owed, withdraw_batch_owed, withdraw-token_owed}
 use Rattle.setup.specs.Owed.{approve_token_owed, initialize_owed}
 use Rattle.settings.specs.Owed.{pause_owed, unpause_owed, set-operator_owed, revoke_operator_owed, set-operator-withdraw_limit_owed, set_limit_owed, set-token-max_limit_owed}
-use Rattle.batch_deposits.specs.Owed.{batch_deposit_owed}
-use Rattle.deposits.specs.Owed.{deposit_owed, deposit_with_fee_owed, deposit-token_owed, deposit_with_failure_report_owed}
+use Rattle.batch_deposits.proofs.Owed.{batch_deposit_owed}
+use Rattle.deposits.proofs.Owed.{deposit_owed, deposit_with_fee_owed, deposit-token_owed, deposit_with_failure_report_owed}
 use Rattle.book.specs.Book.{Book, enter_book, BookIs}
 use Rattle.outcome.specs.Outcome.{Outcome, formed_as}
 use Rattle.events.specs.Event.{event_buffer}

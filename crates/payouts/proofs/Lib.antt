@@ -2,3 +2,5 @@
 pub mod Steps
 pub mod Loops
 pub mod Whole
+pub mod Moved
+pub mod Owed

@@ -9,7 +9,7 @@ use Rattle.image.specs.Layout.{initialised}
 use Rattle.amount.specs.Biased.{bias}
 use Rattle.fields.specs.Rules.{or_go, or_stop, or_none}
 use Rattle.payouts.specs.Parts.{put_events, Pays, Payable}
-use Rattle.payouts.specs.Moved.{pay_moves}
+use Rattle.payouts.proofs.Moved.{pay_moves}
 use Rattle.payouts.specs.Payouts.{Payout, payout, items, item_number, items_number, items_sum, pay_number, payouts_number, payouts_image, payouts_events}
 
 module _ (n i : ℕ) (r : List ℕ) where

@@ -4,4 +4,3 @@ pub mod Token
 pub mod Parts
 pub mod Laws
 pub mod Moved
-pub mod Owed

@@ -18,7 +18,7 @@ use Rattle.storage.specs.Writes.{default_range}
 use Rattle.record.specs.Record.{operation_of, caller_of, timestamp_of, signers_of}
 use Rattle.record.specs.Form.{member, is_view}
 use Rattle.migration.specs.Migration.{execute_number, execute_outcome, execute_emergency_migration}
-use Rattle.migration.specs.Laws.{execute_free}
+use Rattle.migration.proofs.Laws.{execute_free}
 use Rattle.image.specs.Layout.{cells, default_token, destination}
 use Rattle.image.specs.Good.{good_image}
 use Rattle.history.specs.Kept.{run, kept, total, SameAsKept}

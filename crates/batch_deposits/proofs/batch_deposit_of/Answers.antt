@@ -1,7 +1,7 @@
 -- `batch_deposits::batch_deposit_of` meets its contract.
 use Rattle.batch_deposits.proofs.Whole.{not_open, not-signed, not-funded, batch_passed}
 use Rattle.batch_deposits.specs.Laws.{open_free, items_free}
-use Rattle.deposits.specs.Laws.{funding_free}
+use Rattle.deposits.proofs.Laws.{funding_free}
 use Rattle.storage.specs.Writes.{default_range}
 use mathlib.Core.Path.{sym, ◌∙◌}
 use native.Mathlib.Omega.{arith}

@@ -1,6 +1,6 @@
 -- `deposits::deposit_of` meets its contract.
 use Rattle.deposits.proofs.Whole.{moved_keys, deposited, settled_image, deposit-refused, deposit_passed}
-use Rattle.deposits.specs.Laws.{checks_passed, receive_free}
+use Rattle.deposits.proofs.Laws.{checks_passed, receive_free}
 use Rattle.outcome.specs.Outcome.{refused, blank_long}
 use Rattle.amount.specs.Biased.{bias, biased}
 use mathlib.Core.Path.{sym, ◌∙◌}

@@ -1,7 +1,7 @@
 -- `deposits::deposit_token_of` meets its contract.
 use Rattle.deposits.proofs.Whole.{moved_keys, deposited, token_image, token-refused, token-deposited}
 use mathlib.Core.Path.{sym, ◌∙◌, refl}
-use Rattle.deposits.specs.Laws.{token_passed, receive_free, receive_token_free}
+use Rattle.deposits.proofs.Laws.{token_passed, receive_free, receive_token_free}
 use Rattle.outcome.specs.Outcome.{refused, blank_long}
 use Rattle.amount.specs.Biased.{bias, biased}
 use native.Mathlib.Nat.{add-zero}

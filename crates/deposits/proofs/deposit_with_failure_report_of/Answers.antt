@@ -1,6 +1,6 @@
 -- `deposits::deposit_with_failure_report_of` meets its contract.
 use Rattle.deposits.proofs.Whole.{report_refused, report_passed}
-use Rattle.deposits.specs.Laws.{checks_passed}
+use Rattle.deposits.proofs.Laws.{checks_passed}
 use Rattle.amount.specs.Biased.{biased}
 use native.Mathlib.Omega.{arith}
 use borrow.Author.Rules.{rules}

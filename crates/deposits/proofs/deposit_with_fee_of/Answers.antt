@@ -1,7 +1,7 @@
 -- `deposits::deposit_with_fee_of` meets its contract.
 use Rattle.deposits.proofs.Whole.{fee_refused, net-refused, net-deposited}
 use Rattle.outcome.specs.Outcome.{blank_long}
-use Rattle.deposits.specs.Laws.{gross_free}
+use Rattle.deposits.proofs.Laws.{gross_free}
 use Rattle.amount.specs.Biased.{biased}
 use native.Mathlib.Omega.{arith}
 use borrow.Author.Rules.{rules}

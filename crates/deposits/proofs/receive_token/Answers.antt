@@ -1,7 +1,7 @@
 -- `deposits::receive_token` meets its contract.
 use Rattle.amount.specs.Biased.{biased}
 use Rattle.deposits.proofs.Steps.{token-not_moved, token_overflows, token_compared, moved_is}
-use Rattle.deposits.specs.Laws.{overflow_free}
+use Rattle.deposits.proofs.Laws.{overflow_free}
 use native.Mathlib.Omega.{arith}
 use borrow.Author.Rules.{rules}
 use Rattle.deposits.proofs.receive_token.Goals as goal

@@ -1,6 +1,6 @@
 -- `migration::execute_emergency_migration_of` meets its contract.
 use Rattle.migration.proofs.Steps.{checked_out, not_moved, executed}
-use Rattle.migration.specs.Laws.{checks_free, held_range, good_migrate}
+use Rattle.migration.proofs.Laws.{checks_free, held_range, good_migrate}
 use Rattle.outcome.specs.Outcome.{refused}
 use mathlib.Core.Path.{sym, ◌∙◌}
 use borrow.Author.Rules.{rules}

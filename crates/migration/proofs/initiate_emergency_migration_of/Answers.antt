@@ -1,5 +1,5 @@
 -- `migration::initiate_emergency_migration_of` meets its contract.
-use Rattle.migration.specs.Laws.{initiate_free}
+use Rattle.migration.proofs.Laws.{initiate_free}
 use native.Mathlib.Omega.{arith}
 use Rattle.migration.specs.Migration.{initiate_outcome}
 use Rattle.outcome.specs.Outcome.{refused, announced}

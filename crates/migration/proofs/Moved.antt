@@ -18,7 +18,7 @@ use Rattle.amount.specs.Biased.{bias}
 use Rattle.fields.specs.Frame.{Only, only_then, over}
 use Rattle.fields.specs.Rules.{AllFail, pick}
 use Rattle.migration.specs.Migration.{migrate_number, migrate_holding, clear_migration}
-use Rattle.migration.specs.Laws.{held_none, held_some, held_range, migrate_moves}
+use Rattle.migration.proofs.Laws.{held_none, held_some, held_range, migrate_moves}
 
 -- ---- the migration's fields cleared
 module _ (l : List ℕ) (g : Good l) (i : initialised l ≡ 1) where

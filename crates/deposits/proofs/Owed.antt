@@ -13,9 +13,9 @@ use Rattle.image.specs.Layout.{default_token}
 use Rattle.fields.specs.Rules.{pick, unlinked}
 use Rattle.deposits.specs.Deposit.{deposit_outcome, deposit, net_of, deposit_with_fee_outcome, deposit_with_fee}
 use Rattle.deposits.specs.Report.{report_outcome, failure_report_outcome, deposit_with_failure_report}
-use Rattle.deposits.specs.Moved.{token_moves, deposit_booked, default_good, default_booked, report_good, report_booked}
+use Rattle.deposits.proofs.Moved.{token_moves, deposit_booked, default_good, default_booked, report_good, report_booked}
 use Rattle.deposits.specs.TokenDeposit.{deposit_token_outcome, deposit_token}
-use Rattle.deposits.specs.Laws.{checks_passed, gross_free, token_passed, receive_token_free}
+use Rattle.deposits.proofs.Laws.{checks_passed, gross_free, token_passed, receive_token_free}
 use Rattle.record.specs.Form.{member, reads_caller}
 
 enter_2 : (b : Book) (r e : List ℕ) → operation_of r ≡ 2 → enter_book b r e ≡ adds b.token (integer_of (amount_of r)) b

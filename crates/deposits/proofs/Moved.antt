@@ -21,7 +21,8 @@ use Rattle.fields.specs.Rules.{pick, AllFail}
 use Rattle.deposits.specs.Deposit.{deposit_holding, expected_holding, receive_number, add_credit, deposit_image, deposit_checks}
 use Rattle.deposits.specs.Report.{settled_report, failed_report, report_outcome}
 use Rattle.deposits.specs.TokenDeposit.{deposit_token_image}
-use Rattle.deposits.specs.Laws.{Funded, checks_passed, receive_free, received-all, credited_free}
+use Rattle.deposits.specs.Laws.{Funded}
+use Rattle.deposits.proofs.Laws.{checks_passed, receive_free, received-all, credited_free}
 use Rattle.events.specs.Buffer.{first_byte}
 use Rattle.std.proofs.Math.Decide.{ℕ_discrete}
 

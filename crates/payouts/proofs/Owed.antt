@@ -8,7 +8,8 @@ use Rattle.outcome.specs.Outcome.{Formed}
 use Rattle.outcome.specs.FormedLaws.{caller_in, other_in}
 use Rattle.record.specs.Form.{member, reads_caller, reads_other}
 use Rattle.record.specs.Record.{operation_of, caller_of, token_of, other_of, item_count_of, sequence_of, signers_of, amount_of}
-use Rattle.payouts.specs.Moved.{takes_all, items-takes_all, withdraw_good, withdraw_booked, token_good, token_booked}
+use Rattle.payouts.specs.Moved.{takes_all}
+use Rattle.payouts.proofs.Moved.{items-takes_all, withdraw_good, withdraw_booked, token_good, token_booked}
 use Rattle.payouts.specs.Token.{withdraw_token_outcome, withdraw_token}
 use Rattle.payouts.specs.Laws.{batch_addressed}
 use Rattle.payouts.specs.Payouts.{withdraw_outcome, withdraw, withdraw_batch}

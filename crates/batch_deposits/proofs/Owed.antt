@@ -5,7 +5,7 @@ use Rattle.book.specs.Owed.{Owed}
 use Rattle.outcome.specs.Outcome.{Formed}
 use Rattle.outcome.specs.FormedLaws.{item_in}
 use Rattle.record.specs.Record.{operation_of, item_count_of, sequence_of, signers_of, item_address}
-use Rattle.batch_deposits.specs.Moved.{batch_good, batch_booked}
+use Rattle.batch_deposits.proofs.Moved.{batch_good, batch_booked}
 use Rattle.batch_deposits.specs.Batch.{batch_deposit}
 use Rattle.record.specs.Form.{member, reads_items}
 

@@ -15,8 +15,8 @@ use Rattle.fields.specs.Logic.{◌and◌}
 use Rattle.fields.specs.Frame.{only_then, over}
 use Rattle.fields.specs.Bytes.{put, length-put, le-put-same}
 use Rattle.migration.specs.Migration.{timelock, initiate_outcome, initiate_emergency_migration, migrate_holding, execute_outcome, execute_emergency_migration, cancel_outcome, cancel_emergency_migration}
-use Rattle.migration.specs.Laws.{initiate_free, execute_free, cancel_free, migrate_moves, good_migrate}
-use Rattle.migration.specs.Moved.{good_clear, clear_booked, migrate_booked}
+use Rattle.migration.proofs.Laws.{initiate_free, execute_free, cancel_free, migrate_moves, good_migrate}
+use Rattle.migration.proofs.Moved.{good_clear, clear_booked, migrate_booked}
 
 -- ---- 21
 enter_21 : (b : Book) (r e : List ℕ) → operation_of r ≡ 21 → enter_book b r e ≡ record { numbers = b.numbers; tolls = b.tolls; token = b.token; destination = other_of r }
