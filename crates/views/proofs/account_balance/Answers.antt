@@ -1,7 +1,6 @@
 -- `views::account_balance` meets its contract.
 use Rattle.views.proofs.Steps.{no_token, token-credit}
 use native.Mathlib.Omega.{arith}
-use borrow.Author.Rules.{rules}
 use Rattle.views.proofs.account_balance.Goals as goal
 
 pub returns-then-t-lt48 : goal.returns-then-t-lt48

@@ -2,7 +2,6 @@
 use Rattle.views.proofs.Steps.{owner-value, capped-value, full_value}
 use native.Mathlib.Omega.{arith}
 use mathlib.Core.Path.{sym, ◌∙◌}
-use borrow.Author.Rules.{rules}
 use Rattle.views.proofs.effective_value.Goals as goal
 
 pub returns-then-get8-caller : goal.returns-then-get8-caller

@@ -1,5 +1,4 @@
 -- `views::effective_withdraw_limit` meets its contract.
-use borrow.Author.Rules.{rules}
 use Rattle.views.proofs.effective_withdraw_limit.Goals as goal
 
 pub returns : goal.returns

@@ -5,7 +5,6 @@ use Rattle.outcome.specs.FormedLaws.{caller_in, token_in}
 use Rattle.record.specs.Form.{reads_caller, reads_token, member}
 use native.Mathlib.Omega.{arith}
 use mathlib.Core.Path.{refl}
-use borrow.Author.Rules.{rules}
 use Rattle.views.proofs.get_token_account_balance.Goals as goal
 
 pub account_balance-requires : goal.account_balance-requires

@@ -5,7 +5,6 @@ use Rattle.outcome.specs.FormedLaws.{token_in}
 use Rattle.record.specs.Form.{reads_token, member}
 use native.Mathlib.Omega.{arith}
 use mathlib.Core.Path.{refl}
-use borrow.Author.Rules.{rules}
 use Rattle.views.proofs.is_token_approved.Goals as goal
 
 pub has-requires : goal.has-requires

@@ -1,5 +1,4 @@
 -- `views::is_token_compliant` meets its contract.
-use borrow.Author.Rules.{rules}
 use Rattle.views.proofs.is_token_compliant.Goals as goal
 
 pub returns : goal.returns

@@ -4,7 +4,6 @@ use Rattle.outcome.specs.Outcome.{view_refused, view_accepted}
 use borrow.Author.Tests.{eq-eqb, ne_eqb}
 use native.Mathlib.Omega.{arith}
 use mathlib.Core.Path.{refl, sym, ◌∙◌}
-use borrow.Author.Rules.{rules}
 use Rattle.views.proofs.is_token_compliant_of.Goals as goal
 
 pub returns-then-t-eq0 : goal.returns-then-t-eq0

@@ -3,7 +3,6 @@ use Rattle.views.specs.Views.{withdraw_cap_number}
 use Rattle.fields.specs.Rules.{stop_at}
 use native.Mathlib.Omega.{arith}
 use mathlib.Core.Path.{refl}
-use borrow.Author.Rules.{rules}
 use Rattle.views.proofs.withdraw_cap_check.Goals as goal
 
 pub returns-then-get8-caller : goal.returns-then-get8-caller
