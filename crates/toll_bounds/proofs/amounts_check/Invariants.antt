@@ -1,11 +1,7 @@
 -- `toll_bounds::amounts_check` meets its contract.
 use Prim.Native.Nat.{ℕ, ◌-◌, ◌≤◌, ◌<◌}
-use native.Mathlib.Omega.{arith}
-use borrow.Author.Count.{below_more}
 use Rattle.amount.specs.Biased.{bias}
 use Rattle.toll_bounds.specs.Bounds.{amount_in}
-use Rattle.toll_bounds.specs.Laws.{amounts_none, amounts_stop}
-use borrow.Author.Rules.{rules}
 use Rattle.toll_bounds.proofs.amounts_check.Given as goal
 
 abbrev pub invariant-loop-i : goal.invariant-loop-i

@@ -1,5 +1,4 @@
 -- `toll_bounds::arrival` meets its contract.
-use borrow.Author.Rules.{rules}
 use Rattle.toll_bounds.proofs.arrival.Goals as goal
 
 pub returns : goal.returns

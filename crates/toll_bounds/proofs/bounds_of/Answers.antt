@@ -1,11 +1,9 @@
 -- `toll_bounds::bounds_of` meets its contract.
 use mathlib.Core.Path.{sym, ◌∙◌}
 use native.Mathlib.Omega.{arith}
-use borrow.Author.Tests.{not-true, not-false}
 use Rattle.storage.specs.Facts.{facts}
 use Rattle.toll_bounds.specs.Laws.{request_free}
 use Rattle.toll_bounds.proofs.Whole.{refused_is, stop_30, stop_46, stop_4, stop_7, given_is}
-use borrow.Author.Rules.{rules}
 use Rattle.toll_bounds.proofs.bounds_of.Goals as goal
 
 pub returns-then-not-good_image : goal.returns-then-not-good_image

@@ -1,12 +1,10 @@
 -- `toll_bounds::holding_after` meets its contract.
 use mathlib.Core.Path.{◌≡◌, sym}
-use Prim.Native.Nat.{◌+◌, ◌-◌, ◌≤◌, ◌<◌}
 use native.Mathlib.Omega.{arith}
-use Rattle.amount.specs.Biased.{bias, biased}
+use Rattle.amount.specs.Biased.{biased}
 use Rattle.amount.specs.Laws.{biased_below}
 use Rattle.toll_bounds.specs.Bounds.{amount_in, holding_after}
 use Rattle.toll_bounds.specs.Laws.{after_none, after_next, pass_none, passed_before}
-use borrow.Author.Rules.{rules}
 use Rattle.toll_bounds.proofs.holding_after.Goals as goal
 
 pub loop-i-init : goal.loop-i-init

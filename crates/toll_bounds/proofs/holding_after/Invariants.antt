@@ -1,12 +1,8 @@
 -- `toll_bounds::holding_after` meets its contract.
-use mathlib.Core.Path.{◌≡◌, sym}
+use mathlib.Core.Path.{◌≡◌}
 use Prim.Native.Nat.{◌+◌, ◌-◌, ◌≤◌, ◌<◌}
-use native.Mathlib.Omega.{arith}
 use Rattle.amount.specs.Biased.{bias, biased}
-use Rattle.amount.specs.Laws.{biased_below}
 use Rattle.toll_bounds.specs.Bounds.{amount_in, holding_after}
-use Rattle.toll_bounds.specs.Laws.{after_none, after_next, pass_none, passed_before}
-use borrow.Author.Rules.{rules}
 use Rattle.toll_bounds.proofs.holding_after.Given as goal
 
 abbrev pub invariant-loop-i : goal.invariant-loop-i

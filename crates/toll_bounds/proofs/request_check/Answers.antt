@@ -2,7 +2,6 @@
 use native.Mathlib.Omega.{arith}
 use Rattle.fields.specs.Rules.{link_at_lem, ends_at}
 use Rattle.toll_bounds.specs.Bounds.{request_number}
-use borrow.Author.Rules.{rules}
 use Rattle.toll_bounds.proofs.request_check.Goals as goal
 
 pub returns-then-k1-ne0 : goal.returns-then-k1-ne0

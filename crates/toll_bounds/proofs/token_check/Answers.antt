@@ -3,7 +3,6 @@ use native.Mathlib.Omega.{arith}
 use mathlib.Core.Path.{refl}
 use Rattle.fields.specs.Rules.{stop_at}
 use Rattle.toll_bounds.specs.Bounds.{token_number}
-use borrow.Author.Rules.{rules}
 use Rattle.toll_bounds.proofs.token_check.Goals as goal
 
 pub returns-then-t-gt63 : goal.returns-then-t-gt63

@@ -2,7 +2,6 @@
 use mathlib.Core.Path.{ap, ◌∙◌}
 use native.Mathlib.Omega.{arith}
 use Rattle.events.specs.Splice.{amount_bytes, put_amount_whole}
-use borrow.Author.Rules.{rules}
 use Rattle.toll_bounds.proofs.toll_bounds.Goals as goal
 
 pub returns : goal.returns

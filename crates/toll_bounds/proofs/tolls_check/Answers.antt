@@ -5,7 +5,6 @@ use borrow.Author.Tests.{ltb-true, ltb-false}
 use Rattle.amount.specs.Biased.{biased}
 use Rattle.fields.specs.Rules.{stop_at}
 use Rattle.toll_bounds.specs.Bounds.{tolls_number}
-use borrow.Author.Rules.{rules}
 use Rattle.toll_bounds.proofs.tolls_check.Goals as goal
 
 pub returns-then-less : goal.returns-then-less
