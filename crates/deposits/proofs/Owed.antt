@@ -1,5 +1,5 @@
 -- What the deposits owe to demand 3.
-use Rattle.std.specs.Prelude.{◌≡◌, List, ℕ, ◌-◌, ◌<◌, eqb, ◌-ℤ◌, get_or}
+use Rattle.std.specs.Prelude.{◌≡◌, List, ℕ, ◌<◌, eqb, ◌-ℤ◌, get_or}
 use Rattle.std.proofs.Math.Path.{refl, sym, subst}
 use Rattle.std.proofs.Common.{arith}
 use Rattle.book.specs.Book.{Book, adds, enter_book, BookIs}

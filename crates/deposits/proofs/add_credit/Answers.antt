@@ -2,7 +2,6 @@
 use Rattle.deposits.proofs.Steps.{credit-fits, credit-kept}
 use native.Mathlib.Omega.{arith}
 use mathlib.Core.Path.{sym}
-use borrow.Author.Rules.{rules}
 use Rattle.deposits.proofs.add_credit.Goals as goal
 
 pub returns-then-passes-ne0 : goal.returns-then-passes-ne0

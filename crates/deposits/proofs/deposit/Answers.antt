@@ -3,7 +3,6 @@ use Rattle.outcome.specs.FormedLaws.{caller_in}
 use Rattle.record.specs.Form.{reads_caller, member}
 use native.Mathlib.Omega.{arith}
 use mathlib.Core.Path.{refl}
-use borrow.Author.Rules.{rules}
 use Rattle.deposits.proofs.deposit.Goals as goal
 
 pub deposit_of-requires : goal.deposit_of-requires

@@ -3,7 +3,6 @@ use Rattle.outcome.specs.FormedLaws.{caller_in, token_in}
 use Rattle.record.specs.Form.{reads_caller, reads_token, member}
 use mathlib.Core.Path.{refl}
 use native.Mathlib.Omega.{arith}
-use borrow.Author.Rules.{rules}
 use Rattle.deposits.proofs.deposit_token.Goals as goal
 
 pub deposit_token_of-requires : goal.deposit_token_of-requires

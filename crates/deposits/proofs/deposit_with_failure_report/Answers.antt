@@ -3,7 +3,6 @@ use Rattle.outcome.specs.FormedLaws.{caller_in}
 use Rattle.record.specs.Form.{reads_caller, member}
 use mathlib.Core.Path.{refl}
 use native.Mathlib.Omega.{arith}
-use borrow.Author.Rules.{rules}
 use Rattle.deposits.proofs.deposit_with_failure_report.Goals as goal
 
 pub deposit_with_failure_report_of-requires : goal.deposit_with_failure_report_of-requires

@@ -4,7 +4,6 @@ use Rattle.outcome.specs.Outcome.{blank_long}
 use Rattle.deposits.proofs.Laws.{gross_free}
 use Rattle.amount.specs.Biased.{biased}
 use native.Mathlib.Omega.{arith}
-use borrow.Author.Rules.{rules}
 use Rattle.deposits.proofs.deposit_with_fee_of.Goals as goal
 
 pub returns-then-k-ne0 : goal.returns-then-k-ne0

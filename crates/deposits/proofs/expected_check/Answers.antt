@@ -3,7 +3,6 @@ use Rattle.deposits.specs.Deposit.{expected_number}
 use Rattle.fields.specs.Rules.{stop_at}
 use native.Mathlib.Omega.{arith}
 use mathlib.Core.Path.{refl}
-use borrow.Author.Rules.{rules}
 use Rattle.deposits.proofs.expected_check.Goals as goal
 
 pub returns-then-differ-ne0 : goal.returns-then-differ-ne0

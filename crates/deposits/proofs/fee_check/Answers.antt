@@ -5,7 +5,6 @@ use Rattle.deposits.specs.Deposit.{fee_number}
 use Rattle.fields.specs.Rules.{stop_at}
 use native.Mathlib.Omega.{arith}
 use mathlib.Core.Path.{refl}
-use borrow.Author.Rules.{rules}
 use Rattle.deposits.proofs.fee_check.Goals as goal
 
 pub returns-then-below-ne0 : goal.returns-then-below-ne0

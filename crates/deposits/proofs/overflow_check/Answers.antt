@@ -3,7 +3,6 @@ use Rattle.deposits.specs.Deposit.{overflow_number}
 use Rattle.fields.specs.Rules.{stop_at}
 use native.Mathlib.Omega.{arith}
 use mathlib.Core.Path.{refl}
-use borrow.Author.Rules.{rules}
 use Rattle.deposits.proofs.overflow_check.Goals as goal
 
 pub returns-then-passes-ne0 : goal.returns-then-passes-ne0

@@ -1,7 +1,6 @@
 -- `deposits::receive` meets its contract.
 use Rattle.amount.specs.Biased.{biased}
 use Rattle.deposits.proofs.Steps.{not_moved, moved_is, compared}
-use borrow.Author.Rules.{rules}
 use Rattle.deposits.proofs.receive.Goals as goal
 
 pub returns-then-k-ne0 : goal.returns-then-k-ne0

@@ -3,7 +3,6 @@ use Rattle.amount.specs.Biased.{biased}
 use Rattle.deposits.proofs.Steps.{token-not_moved, token_overflows, token_compared, moved_is}
 use Rattle.deposits.proofs.Laws.{overflow_free}
 use native.Mathlib.Omega.{arith}
-use borrow.Author.Rules.{rules}
 use Rattle.deposits.proofs.receive_token.Goals as goal
 
 pub returns-then-k1-ne0 : goal.returns-then-k1-ne0

@@ -6,7 +6,6 @@ use Rattle.deposits.proofs.Steps.{moved_is, credited}
 use Rattle.outcome.specs.Outcome.{refused, blank_long}
 use Rattle.amount.specs.Biased.{biased}
 use native.Mathlib.Omega.{arith}
-use borrow.Author.Rules.{rules}
 use Rattle.deposits.proofs.report.Goals as goal
 
 pub put_event-requires : goal.put_event-requires

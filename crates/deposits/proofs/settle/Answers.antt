@@ -1,5 +1,4 @@
 -- `deposits::settle` meets its contract.
-use borrow.Author.Rules.{rules}
 use Rattle.deposits.proofs.settle.Goals as goal
 
 pub returns : goal.returns

@@ -4,7 +4,6 @@ use Rattle.image.specs.Layout.{capped_set}
 use Rattle.checks.specs.Checks.{in_set}
 use borrow.Author.Tests.{eq-eqb, ne_eqb}
 use native.Mathlib.Omega.{arith}
-use borrow.Author.Rules.{rules}
 use Rattle.deposits.proofs.token_cap_check.Goals as goal
 
 pub returns-then-has-ne1 : goal.returns-then-has-ne1
