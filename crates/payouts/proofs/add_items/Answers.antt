@@ -1,12 +1,10 @@
 -- `payouts::add_items` meets its contract.
 use Rattle.payouts.proofs.Loops.{sum-start, sum_end, sum_stop, sum_turn}
 use Rattle.payouts.specs.Laws.{item_free}
-use Rattle.payouts.specs.Payouts.{items, items_number, items_sum}
-use Rattle.amount.specs.Biased.{bias, biased}
+use Rattle.amount.specs.Biased.{biased}
 use native.Mathlib.Omega.{arith}
-use Prim.Native.Nat.{◌+◌, ◌-◌, ◌≤◌}
-use mathlib.Core.Path.{◌≡◌, sym, ◌∙◌}
-use borrow.Author.Rules.{rules}
+use Prim.Native.Nat.{◌+◌, ◌-◌}
+use mathlib.Core.Path.{sym, ◌∙◌}
 use Rattle.payouts.proofs.add_items.Goals as goal
 
 pub loop-i-init : goal.loop-i-init

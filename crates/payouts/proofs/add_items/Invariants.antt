@@ -1,12 +1,8 @@
 -- `payouts::add_items` meets its contract.
-use Rattle.payouts.proofs.Loops.{sum-start, sum_end, sum_stop, sum_turn}
-use Rattle.payouts.specs.Laws.{item_free}
 use Rattle.payouts.specs.Payouts.{items, items_number, items_sum}
 use Rattle.amount.specs.Biased.{bias, biased}
-use native.Mathlib.Omega.{arith}
-use Prim.Native.Nat.{◌+◌, ◌-◌, ◌≤◌}
-use mathlib.Core.Path.{◌≡◌, sym, ◌∙◌}
-use borrow.Author.Rules.{rules}
+use Prim.Native.Nat.{◌-◌, ◌≤◌}
+use mathlib.Core.Path.{◌≡◌}
 use Rattle.payouts.proofs.add_items.Given as goal
 
 abbrev pub invariant-loop-i : goal.invariant-loop-i

@@ -3,7 +3,6 @@ use Rattle.payouts.specs.Token.{credit_number}
 use Rattle.fields.specs.Rules.{stop_at}
 use native.Mathlib.Omega.{arith}
 use mathlib.Core.Path.{refl}
-use borrow.Author.Rules.{rules}
 use Rattle.payouts.proofs.credit_check.Goals as goal
 
 pub returns-then-get8-caller : goal.returns-then-get8-caller

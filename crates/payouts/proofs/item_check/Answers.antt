@@ -3,7 +3,6 @@ use Rattle.payouts.specs.Payouts.{item_number}
 use Rattle.fields.specs.Rules.{stop_at}
 use native.Mathlib.Omega.{arith}
 use mathlib.Core.Path.{refl}
-use borrow.Author.Rules.{rules}
 use Rattle.payouts.proofs.item_check.Goals as goal
 
 pub returns-then-below-eq0 : goal.returns-then-below-eq0

@@ -1,7 +1,6 @@
 -- `payouts::pay` meets its contract.
 use Rattle.payouts.proofs.Steps.{not_paid, paid}
 use Rattle.amount.specs.Biased.{biased, num}
-use borrow.Author.Rules.{rules}
 use Rattle.payouts.proofs.pay.Goals as goal
 
 pub returns-then-k-ne0 : goal.returns-then-k-ne0

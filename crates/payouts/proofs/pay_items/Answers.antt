@@ -1,11 +1,7 @@
 -- `payouts::pay_items` meets its contract.
-use Rattle.payouts.proofs.Loops.{Paying, pay_start, pay_end, payee, amount, pay_stop, pay_turn}
-use Rattle.payouts.specs.Payouts.{items}
-use Rattle.amount.specs.Biased.{num}
-use lib.ListN.{length}
+use Rattle.payouts.proofs.Loops.{pay_start, pay_end, payee, amount, pay_stop, pay_turn}
 use native.Mathlib.Omega.{arith}
-use mathlib.Core.Path.{◌≡◌}
-use Prim.Native.Nat.{◌+◌, ◌-◌, ◌≤◌}
+use Prim.Native.Nat.{◌+◌, ◌-◌}
 use borrow.Author.Rules.{rules}
 use Rattle.payouts.proofs.pay_items.Goals as goal
 

@@ -1,12 +1,10 @@
 -- `payouts::pay_items` meets its contract.
-use Rattle.payouts.proofs.Loops.{Paying, pay_start, pay_end, payee, amount, pay_stop, pay_turn}
+use Rattle.payouts.proofs.Loops.{Paying}
 use Rattle.payouts.specs.Payouts.{items}
 use Rattle.amount.specs.Biased.{num}
 use lib.ListN.{length}
-use native.Mathlib.Omega.{arith}
 use mathlib.Core.Path.{◌≡◌}
-use Prim.Native.Nat.{◌+◌, ◌-◌, ◌≤◌}
-use borrow.Author.Rules.{rules}
+use Prim.Native.Nat.{◌-◌, ◌≤◌}
 use Rattle.payouts.proofs.pay_items.Given as goal
 
 abbrev pub invariant-loop-i : goal.invariant-loop-i

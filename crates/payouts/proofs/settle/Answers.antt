@@ -1,5 +1,4 @@
 -- `payouts::settle` meets its contract.
-use borrow.Author.Rules.{rules}
 use Rattle.payouts.proofs.settle.Goals as goal
 
 pub returns : goal.returns

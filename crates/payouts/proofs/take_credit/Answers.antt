@@ -2,7 +2,6 @@
 use Rattle.payouts.proofs.Steps.{credit_lowered, credit-kept}
 use native.Mathlib.Omega.{arith}
 use mathlib.Core.Path.{sym}
-use borrow.Author.Rules.{rules}
 use Rattle.payouts.proofs.take_credit.Goals as goal
 
 pub returns-then-below-ne0 : goal.returns-then-below-ne0

@@ -3,7 +3,6 @@ use Rattle.record.specs.Form.{reads_caller, reads_other, member}
 use Rattle.outcome.specs.FormedLaws.{caller_in, other_in}
 use native.Mathlib.Omega.{arith}
 use mathlib.Core.Path.{refl}
-use borrow.Author.Rules.{rules}
 use Rattle.payouts.proofs.withdraw.Goals as goal
 
 pub withdraw_of-requires : goal.withdraw_of-requires

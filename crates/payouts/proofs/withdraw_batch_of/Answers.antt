@@ -4,7 +4,6 @@ use Rattle.payouts.specs.Payouts.{items}
 use Rattle.payouts.specs.Laws.{checks_passed, items-length}
 use Rattle.outcome.specs.Outcome.{refused, blank_long}
 use mathlib.Core.Path.{refl, sym, ◌∙◌}
-use borrow.Author.Rules.{rules}
 use Rattle.payouts.proofs.withdraw_batch_of.Goals as goal
 
 pub returns-then-k-ne0 : goal.returns-then-k-ne0

@@ -4,7 +4,6 @@ use Rattle.payouts.specs.Laws.{checks_passed}
 use Rattle.outcome.specs.Outcome.{refused, blank_long}
 use native.Mathlib.Omega.{arith}
 use mathlib.Core.Path.{refl}
-use borrow.Author.Rules.{rules}
 use Rattle.payouts.proofs.withdraw_of.Goals as goal
 
 pub returns-then-k-ne0 : goal.returns-then-k-ne0

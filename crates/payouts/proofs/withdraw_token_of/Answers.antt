@@ -4,7 +4,6 @@ use Rattle.payouts.specs.Laws.{token_checks_passed}
 use Rattle.outcome.specs.Outcome.{refused, blank_long}
 use Rattle.amount.specs.Biased.{biased}
 use native.Mathlib.Omega.{arith}
-use borrow.Author.Rules.{rules}
 use Rattle.payouts.proofs.withdraw_token_of.Goals as goal
 
 pub returns-then-k-ne0 : goal.returns-then-k-ne0
