@@ -3,7 +3,6 @@ use Rattle.settings.specs.Settings.{below_holding_number}
 use Rattle.fields.specs.Rules.{stop_at}
 use native.Mathlib.Omega.{arith}
 use mathlib.Core.Path.{refl}
-use borrow.Author.Rules.{rules}
 use Rattle.settings.proofs.below_holding_check.Goals as goal
 
 pub returns-then-below-ne0 : goal.returns-then-below-ne0

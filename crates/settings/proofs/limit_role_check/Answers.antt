@@ -5,7 +5,6 @@ use Rattle.image.specs.Layout.{vault_limit}
 use borrow.Author.Tests.{lt-ltb, le-ltb}
 use native.Mathlib.Omega.{arith}
 use Prim.Native.Nat.{◌<◌, ◌≤◌}
-use borrow.Author.Rules.{rules}
 use Rattle.settings.proofs.limit_role_check.Goals as goal
 
 pub returns-then-below-ne0 : goal.returns-then-below-ne0

@@ -3,7 +3,6 @@ use Rattle.settings.specs.Settings.{not_paused_number}
 use Rattle.fields.specs.Rules.{stop_at}
 use native.Mathlib.Omega.{arith}
 use mathlib.Core.Path.{refl}
-use borrow.Author.Rules.{rules}
 use Rattle.settings.proofs.not_paused_check.Goals as goal
 
 pub returns-then-flag_of-ne1 : goal.returns-then-flag_of-ne1

@@ -2,7 +2,6 @@
 use Rattle.settings.specs.Settings.{operator_limit_number}
 use Rattle.fields.specs.Rules.{link_at_lem, ends_at}
 use native.Mathlib.Omega.{arith}
-use borrow.Author.Rules.{rules}
 use Rattle.settings.proofs.operator_limit_check.Goals as goal
 
 pub returns-then-k1-ne0 : goal.returns-then-k1-ne0

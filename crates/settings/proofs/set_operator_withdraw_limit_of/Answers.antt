@@ -2,7 +2,6 @@
 use Rattle.settings.specs.Settings.{operator_limit_outcome}
 use Rattle.outcome.specs.Outcome.{refused, announced}
 use mathlib.Core.Path.{sym, ◌∙◌}
-use borrow.Author.Rules.{rules}
 use Rattle.settings.proofs.set_operator_withdraw_limit_of.Goals as goal
 
 pub returns-then-k-ne0 : goal.returns-then-k-ne0

@@ -4,7 +4,6 @@ use Rattle.outcome.specs.Outcome.{refused, accepted}
 use Rattle.amount.specs.Biased.{bias}
 use native.Mathlib.Nat.{add-zero}
 use mathlib.Core.Path.{sym, ◌∙◌}
-use borrow.Author.Rules.{rules}
 use Rattle.settings.proofs.set_token_max_limit_of.Goals as goal
 
 pub returns-then-k-ne0 : goal.returns-then-k-ne0
