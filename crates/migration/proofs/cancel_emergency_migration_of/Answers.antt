@@ -2,7 +2,6 @@
 use Rattle.migration.specs.Migration.{cancel_outcome}
 use Rattle.outcome.specs.Outcome.{refused, announced}
 use mathlib.Core.Path.{sym, ◌∙◌}
-use borrow.Author.Rules.{rules}
 use Rattle.migration.proofs.cancel_emergency_migration_of.Goals as goal
 
 pub returns-then-k-ne0 : goal.returns-then-k-ne0

@@ -1,6 +1,5 @@
 -- `migration::clear_migration` meets its contract.
 use Rattle.migration.specs.Migration.{clear_migration}
-use borrow.Author.Rules.{rules}
 use Rattle.migration.proofs.clear_migration.Goals as goal
 
 pub returns : goal.returns

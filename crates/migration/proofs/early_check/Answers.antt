@@ -3,7 +3,6 @@ use Rattle.migration.specs.Migration.{early_number}
 use Rattle.fields.specs.Rules.{stop_at}
 use native.Mathlib.Omega.{arith}
 use mathlib.Core.Path.{refl}
-use borrow.Author.Rules.{rules}
 use Rattle.migration.proofs.early_check.Goals as goal
 
 pub returns-then-time-get64 : goal.returns-then-time-get64

@@ -3,7 +3,6 @@ use Rattle.migration.proofs.Steps.{checked_out, not_moved, executed}
 use Rattle.migration.proofs.Laws.{checks_free, held_range, good_migrate}
 use Rattle.outcome.specs.Outcome.{refused}
 use mathlib.Core.Path.{sym, ◌∙◌}
-use borrow.Author.Rules.{rules}
 use Rattle.migration.proofs.execute_emergency_migration_of.Goals as goal
 
 pub returns-then-k-ne0 : goal.returns-then-k-ne0

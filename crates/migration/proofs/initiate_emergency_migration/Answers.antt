@@ -3,7 +3,6 @@ use Rattle.outcome.specs.FormedLaws.{caller_in}
 use Rattle.record.specs.Form.{reads_caller, member}
 use native.Mathlib.Omega.{arith}
 use mathlib.Core.Path.{refl}
-use borrow.Author.Rules.{rules}
 use Rattle.migration.proofs.initiate_emergency_migration.Goals as goal
 
 pub initiate_emergency_migration_of-requires : goal.initiate_emergency_migration_of-requires

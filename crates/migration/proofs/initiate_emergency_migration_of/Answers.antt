@@ -4,7 +4,6 @@ use native.Mathlib.Omega.{arith}
 use Rattle.migration.specs.Migration.{initiate_outcome}
 use Rattle.outcome.specs.Outcome.{refused, announced}
 use mathlib.Core.Path.{sym, ◌∙◌}
-use borrow.Author.Rules.{rules}
 use Rattle.migration.proofs.initiate_emergency_migration_of.Goals as goal
 
 pub returns-then-k-ne0 : goal.returns-then-k-ne0

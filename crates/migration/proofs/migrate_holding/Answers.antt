@@ -1,7 +1,6 @@
 -- `migration::migrate_holding` meets its contract.
 use Rattle.migration.proofs.Steps.{none-held, all_moved}
 use native.Mathlib.Omega.{arith}
-use borrow.Author.Rules.{rules}
 use Rattle.migration.proofs.migrate_holding.Goals as goal
 
 pub returns-then-below-eq0 : goal.returns-then-below-eq0

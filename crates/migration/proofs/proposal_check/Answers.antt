@@ -3,7 +3,6 @@ use Rattle.migration.specs.Migration.{proposal_number}
 use Rattle.fields.specs.Rules.{stop_at}
 use native.Mathlib.Omega.{arith}
 use mathlib.Core.Path.{refl}
-use borrow.Author.Rules.{rules}
 use Rattle.migration.proofs.proposal_check.Goals as goal
 
 pub returns-then-to-eq0 : goal.returns-then-to-eq0
