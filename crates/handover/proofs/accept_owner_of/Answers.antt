@@ -2,7 +2,6 @@
 use Rattle.handover.specs.Handover.{accept_outcome}
 use Rattle.outcome.specs.Outcome.{refused, announced}
 use mathlib.Core.Path.{sym, ◌∙◌}
-use borrow.Author.Rules.{rules}
 use Rattle.handover.proofs.accept_owner_of.Goals as goal
 
 pub returns-then-k-ne0 : goal.returns-then-k-ne0

@@ -1,6 +1,5 @@
 -- `handover::clear_pending` meets its contract.
 use Rattle.handover.specs.Handover.{clear_pending}
-use borrow.Author.Rules.{rules}
 use Rattle.handover.proofs.clear_pending.Goals as goal
 
 pub returns : goal.returns

@@ -3,7 +3,6 @@ use Rattle.handover.specs.Handover.{expired_number}
 use Rattle.fields.specs.Rules.{stop_at}
 use native.Mathlib.Omega.{arith}
 use mathlib.Core.Path.{refl}
-use borrow.Author.Rules.{rules}
 use Rattle.handover.proofs.expired_check.Goals as goal
 
 pub returns-then-ttl-proposed_at : goal.returns-then-ttl-proposed_at

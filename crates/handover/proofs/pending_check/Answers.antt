@@ -3,7 +3,6 @@ use Rattle.handover.specs.Handover.{pending_number}
 use Rattle.fields.specs.Rules.{stop_at}
 use native.Mathlib.Omega.{arith}
 use mathlib.Core.Path.{refl}
-use borrow.Author.Rules.{rules}
 use Rattle.handover.proofs.pending_check.Goals as goal
 
 pub returns-then-flag_of-ne1 : goal.returns-then-flag_of-ne1

@@ -3,7 +3,6 @@ use Rattle.outcome.specs.FormedLaws.{caller_in}
 use Rattle.record.specs.Form.{reads_caller, member}
 use native.Mathlib.Omega.{arith}
 use mathlib.Core.Path.{refl}
-use borrow.Author.Rules.{rules}
 use Rattle.handover.proofs.set_owner_proposal_ttl.Goals as goal
 
 pub set_owner_proposal_ttl_of-requires : goal.set_owner_proposal_ttl_of-requires

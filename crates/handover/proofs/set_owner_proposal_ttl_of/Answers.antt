@@ -2,7 +2,6 @@
 use Rattle.handover.specs.Handover.{proposal_ttl_outcome}
 use Rattle.outcome.specs.Outcome.{refused, announced}
 use mathlib.Core.Path.{sym, ◌∙◌}
-use borrow.Author.Rules.{rules}
 use Rattle.handover.proofs.set_owner_proposal_ttl_of.Goals as goal
 
 pub returns-then-k-ne0 : goal.returns-then-k-ne0
