@@ -14,7 +14,7 @@ use Rattle.token.specs.Laws.{absent_free}
 use Rattle.storage.specs.Heads.{at_head, at_head_amount, good_approved, good_initialise}
 use Rattle.storage.specs.Facts.{Good}
 use Rattle.storage.specs.Writes.{elsewhere}
-use Rattle.image.specs.Layout.{slot, bit, flags, default_token, destination, approved_set, kind, initialised, with_bit}
+use Rattle.image.specs.Layout.{slot, bit, flags, default_token, approved_set, kind, initialised, with_bit}
 use Rattle.amount.specs.Biased.{bias, put_amount}
 use Rattle.fields.specs.Logic.{◌and◌}
 use Rattle.fields.specs.Frame.{Only, only_then, over, zero_le}

@@ -4,7 +4,6 @@ use Rattle.fields.specs.Rules.{link_at_lem, ends_at}
 use borrow.Author.Tests.{eq-eqb, ne_eqb}
 use native.Mathlib.Omega.{arith}
 use mathlib.Core.Path.{refl, sym, ◌∙◌}
-use borrow.Author.Rules.{rules}
 use Rattle.setup.proofs.approve_check.Goals as goal
 
 pub returns-then-k-ne0 : goal.returns-then-k-ne0

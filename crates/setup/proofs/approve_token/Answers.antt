@@ -3,7 +3,6 @@ use Rattle.outcome.specs.FormedLaws.{caller_in, token_in, flag_in}
 use Rattle.record.specs.Form.{reads_caller, reads_token, reads_flag, member}
 use native.Mathlib.Omega.{arith}
 use mathlib.Core.Path.{refl}
-use borrow.Author.Rules.{rules}
 use Rattle.setup.proofs.approve_token.Goals as goal
 
 pub approve_token_of-requires : goal.approve_token_of-requires

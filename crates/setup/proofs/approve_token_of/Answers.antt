@@ -3,7 +3,6 @@ use Rattle.setup.proofs.Steps.{flag-num}
 use Rattle.setup.specs.Setup.{approve_outcome}
 use Rattle.outcome.specs.Outcome.{refused, announced}
 use mathlib.Core.Path.{sym, ◌∙◌}
-use borrow.Author.Rules.{rules}
 use Rattle.setup.proofs.approve_token_of.Goals as goal
 
 pub returns-then-k-ne0 : goal.returns-then-k-ne0

@@ -1,6 +1,5 @@
 -- `setup::approved_set` meets its contract.
 use borrow.Author.Tests.{eq-eqb, ne_eqb}
-use borrow.Author.Rules.{rules}
 use Rattle.setup.proofs.approved_set.Goals as goal
 
 pub returns-then-on-eq1 : goal.returns-then-on-eq1

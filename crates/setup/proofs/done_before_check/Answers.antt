@@ -3,7 +3,6 @@ use Rattle.setup.specs.Setup.{done_before_number}
 use Rattle.fields.specs.Rules.{stop_at}
 use native.Mathlib.Omega.{arith}
 use mathlib.Core.Path.{refl}
-use borrow.Author.Rules.{rules}
 use Rattle.setup.proofs.done_before_check.Goals as goal
 
 pub returns-then-flag_of-eq1 : goal.returns-then-flag_of-eq1

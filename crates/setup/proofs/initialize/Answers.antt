@@ -3,7 +3,6 @@ use Rattle.outcome.specs.FormedLaws.{caller_in, token_in}
 use Rattle.record.specs.Form.{reads_caller, reads_token, member}
 use native.Mathlib.Omega.{arith}
 use mathlib.Core.Path.{refl}
-use borrow.Author.Rules.{rules}
 use Rattle.setup.proofs.initialize.Goals as goal
 
 pub initialize_of-requires : goal.initialize_of-requires

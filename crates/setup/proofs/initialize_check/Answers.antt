@@ -2,7 +2,6 @@
 use Rattle.setup.specs.Setup.{initialize_number}
 use Rattle.fields.specs.Rules.{link_at_lem, ends_at}
 use native.Mathlib.Omega.{arith}
-use borrow.Author.Rules.{rules}
 use Rattle.setup.proofs.initialize_check.Goals as goal
 
 pub returns-then-k1-ne0 : goal.returns-then-k1-ne0

@@ -1,6 +1,5 @@
 -- `setup::initialize_image` meets its contract.
 use Rattle.setup.specs.Setup.{initialize_image}
-use borrow.Author.Rules.{rules}
 use Rattle.setup.proofs.initialize_image.Goals as goal
 
 pub returns : goal.returns

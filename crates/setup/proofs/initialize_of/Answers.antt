@@ -2,7 +2,6 @@
 use Rattle.setup.specs.Setup.{initialize_outcome}
 use Rattle.outcome.specs.Outcome.{refused, announced}
 use mathlib.Core.Path.{sym, ◌∙◌}
-use borrow.Author.Rules.{rules}
 use Rattle.setup.proofs.initialize_of.Goals as goal
 
 pub returns-then-k-ne0 : goal.returns-then-k-ne0
