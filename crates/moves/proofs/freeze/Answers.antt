@@ -1,5 +1,4 @@
 -- `moves::freeze` meets its contract.
-use borrow.Author.Rules.{rules}
 use Rattle.moves.proofs.freeze.Goals as goal
 
 pub returns : goal.returns

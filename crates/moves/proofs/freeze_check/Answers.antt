@@ -3,7 +3,6 @@ use Rattle.moves.specs.Outside.{freeze_number}
 use Rattle.fields.specs.Rules.{stop_at}
 use native.Mathlib.Omega.{arith}
 use mathlib.Core.Path.{refl}
-use borrow.Author.Rules.{rules}
 use Rattle.moves.proofs.freeze_check.Goals as goal
 
 pub returns-then-presence_check-ne0 : goal.returns-then-presence_check-ne0

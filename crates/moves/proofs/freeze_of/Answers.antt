@@ -6,7 +6,6 @@ use Rattle.outcome.specs.Outcome.{refused, accepted}
 use native.Mathlib.Omega.{arith}
 use native.Mathlib.Nat.{add-zero}
 use mathlib.Core.Path.{sym, ◌∙◌}
-use borrow.Author.Rules.{rules}
 use Rattle.moves.proofs.freeze_of.Goals as goal
 
 pub returns-then-k-ne0 : goal.returns-then-k-ne0

@@ -3,7 +3,6 @@ use Rattle.outcome.specs.FormedLaws.{caller_in, other_in}
 use Rattle.record.specs.Form.{reads_caller, reads_other, member}
 use native.Mathlib.Omega.{arith}
 use mathlib.Core.Path.{refl}
-use borrow.Author.Rules.{rules}
 use Rattle.moves.proofs.outside_move.Goals as goal
 
 pub outside_move_of-requires : goal.outside_move_of-requires

@@ -2,7 +2,6 @@
 use Rattle.moves.specs.Outside.{outside_move_checks}
 use Rattle.fields.specs.Rules.{link_at_lem, ends_at}
 use native.Mathlib.Omega.{arith}
-use borrow.Author.Rules.{rules}
 use Rattle.moves.proofs.outside_move_check.Goals as goal
 
 pub returns-then-k-ne0 : goal.returns-then-k-ne0

@@ -4,7 +4,6 @@ use Rattle.moves.specs.Laws.{outside_free}
 use Rattle.amount.specs.Biased.{biased}
 use Rattle.outcome.specs.Outcome.{refused}
 use native.Mathlib.Omega.{arith}
-use borrow.Author.Rules.{rules}
 use Rattle.moves.proofs.outside_move_of.Goals as goal
 
 pub returns-then-k-ne0 : goal.returns-then-k-ne0
