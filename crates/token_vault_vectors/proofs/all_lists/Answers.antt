@@ -1,10 +1,7 @@
 -- `all_lists` meets its contract. The invariant: the count is at most 2 ^ 64 - 1.
 use mathlib.Core.Path.{refl}
 use mathlib.Core.Logic.{inl, inr, ⊎_elim}
-use Prim.Native.Nat.{◌-◌, ◌≤◌}
 use native.Mathlib.Omega.{arith}
-use borrow.Author.Tests.{not-true, not-false, eqb-true, eqb-false}
-use borrow.Author.Rules.{rules}
 use Rattle.token_vault_vectors.proofs.Replaying.{list_faulty}
 use Rattle.token_vault_vectors.proofs.all_lists.Goals as goal
 

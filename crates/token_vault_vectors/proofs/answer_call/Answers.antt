@@ -1,6 +1,5 @@
 -- `answer_call` meets its contract.
 use Rattle.token_vault_vectors.proofs.Replaying.{operation_called, preview_called, transaction_called}
-use borrow.Author.Rules.{rules}
 use Rattle.token_vault_vectors.proofs.answer_call.Goals as goal
 
 pub returns-then-kind-eq0 : goal.returns-then-kind-eq0

@@ -1,6 +1,5 @@
 -- `call_fault` meets its contract.
 use native.Mathlib.Omega.{arith}
-use borrow.Author.Rules.{rules}
 use Rattle.fields.specs.Rules.{link_at_lem, ends_at}
 use Rattle.token_vault_vectors.specs.Faults.{call_fault}
 use Rattle.token_vault_vectors.proofs.call_fault.Goals as goal

@@ -1,7 +1,6 @@
 -- `call_head_fault` meets its contract.
 use mathlib.Core.Path.{refl, sym, ◌∙◌}
 use native.Mathlib.Omega.{arith}
-use borrow.Author.Rules.{rules}
 use Rattle.fields.specs.Rules.{stop_at}
 use Rattle.token_vault_vectors.specs.Faults.{call_head_fault}
 use Rattle.token_vault_vectors.proofs.call_head_fault.Goals as goal

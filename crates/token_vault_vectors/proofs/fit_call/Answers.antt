@@ -3,7 +3,6 @@ use mathlib.Core.List.{[]}
 use mathlib.Core.Path.{refl, sym, ◌∙◌}
 use native.Mathlib.Omega.{arith}
 use lib.Seq.{length-take-le}
-use borrow.Author.Rules.{rules}
 use Rattle.token_vault_vectors.proofs.Replaying.{events_fit, call_left, call_answered}
 use Rattle.token_vault_vectors.proofs.fit_call.Goals as goal
 

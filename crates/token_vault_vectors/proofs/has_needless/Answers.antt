@@ -1,6 +1,5 @@
 -- `has_needless` meets its contract.
 use mathlib.Core.Path.{refl, ◌∙◌}
-use borrow.Author.Rules.{rules}
 use Rattle.token_vault_vectors.specs.Faults.{has_needless}
 use Rattle.token_vault_vectors.proofs.has_needless.Goals as goal
 

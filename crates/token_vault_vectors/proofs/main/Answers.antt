@@ -1,5 +1,4 @@
 -- `main` meets its contract: a fault is said where one ended the lists.
-use borrow.Author.Rules.{rules}
 use Rattle.token_vault_vectors.proofs.Replaying.{faulty}
 use Rattle.token_vault_vectors.proofs.main.Goals as goal
 

@@ -1,7 +1,6 @@
 -- `next_list` meets its contract.
 use mathlib.Core.List.{[]}
 use mathlib.Core.Path.{refl}
-use borrow.Author.Rules.{rules}
 use Rattle.token_vault_vectors.proofs.next_list.Goals as goal
 
 pub returns-then-head_read-eq0 : goal.returns-then-head_read-eq0

@@ -3,7 +3,6 @@ use mathlib.Core.Path.{sym, ◌∙◌}
 use native.Mathlib.Omega.{arith}
 use lib.ListN.{length-take}
 use lib.Seq.{length-take-le}
-use borrow.Author.Rules.{rules}
 use Rattle.token_vault_vectors.proofs.Replaying.{record_fits}
 use Rattle.token_vault_vectors.proofs.read_call.Goals as goal
 

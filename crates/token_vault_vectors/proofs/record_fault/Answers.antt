@@ -1,7 +1,6 @@
 -- `record_fault` meets its contract.
 use mathlib.Core.Path.{refl}
 use native.Mathlib.Omega.{arith}
-use borrow.Author.Rules.{rules}
 use Rattle.fields.specs.Rules.{stop_at}
 use Rattle.token_vault_vectors.specs.Faults.{record_fault}
 use Rattle.token_vault_vectors.proofs.record_fault.Goals as goal

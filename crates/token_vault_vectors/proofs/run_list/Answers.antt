@@ -1,6 +1,5 @@
 -- `run_list` meets its contract.
 use native.Mathlib.Omega.{arith}
-use borrow.Author.Rules.{rules}
 use Rattle.journal.specs.Step.{vault}
 use Rattle.token_vault_vectors.proofs.run_list.Goals as goal
 

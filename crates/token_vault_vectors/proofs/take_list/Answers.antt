@@ -1,5 +1,4 @@
 -- `take_list` meets its contract.
-use borrow.Author.Rules.{rules}
 use Rattle.token_vault_vectors.proofs.Replaying.{state_whole, state_other}
 use Rattle.token_vault_vectors.proofs.take_list.Goals as goal
 

@@ -1,5 +1,4 @@
 -- `with_journal` meets its contract.
-use borrow.Author.Rules.{rules}
 use Rattle.token_vault_vectors.proofs.with_journal.Goals as goal
 
 pub returns : goal.returns

@@ -5,7 +5,6 @@ use native.Mathlib.Omega.{arith}
 use lib.ListN.{length, drop, length-drop}
 use lib.Seq.{take_all}
 use Rattle.token_vault_vectors.specs.Faults.{fault_line}
-use borrow.Author.Rules.{rules}
 use Rattle.token_vault_vectors.proofs.write_sentence.Goals as goal
 
 pub write_fault_line-requires : goal.write_fault_line-requires

@@ -1,12 +1,9 @@
 -- `all_records` meets its contract. The invariant: the records so far are whole, and the image is the one after them.
 use mathlib.Core.Logic.{inl, inr, ⊎_elim}
-use mathlib.Core.Path.{refl, ◌≡◌}
-use Prim.Native.Nat.{◌-◌, ◌≤◌}
+use mathlib.Core.Path.{refl}
 use native.Mathlib.Omega.{arith}
-use lib.ListN.{length}
-use borrow.Author.Tests.{not-true}
 use borrow.Author.Rules.{rules}
-use Rattle.vault_program.proofs.Taken.{Whole, none_taken, all_taken, no_more, last_taken, one_more}
+use Rattle.vault_program.proofs.Taken.{none_taken, all_taken, no_more, last_taken, one_more}
 use Rattle.vault_program.proofs.all_records.Goals as goal
 
 pub loop-taken-init : goal.loop-taken-init

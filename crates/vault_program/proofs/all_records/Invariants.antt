@@ -1,12 +1,8 @@
 -- `all_records` meets its contract. The invariant: the records so far are whole, and the image is the one after them.
-use mathlib.Core.Logic.{inl, inr, ⊎_elim}
-use mathlib.Core.Path.{refl, ◌≡◌}
+use mathlib.Core.Path.{◌≡◌}
 use Prim.Native.Nat.{◌-◌, ◌≤◌}
-use native.Mathlib.Omega.{arith}
 use lib.ListN.{length}
-use borrow.Author.Tests.{not-true}
-use borrow.Author.Rules.{rules}
-use Rattle.vault_program.proofs.Taken.{Whole, none_taken, all_taken, no_more, last_taken, one_more}
+use Rattle.vault_program.proofs.Taken.{Whole}
 use Rattle.vault_program.proofs.all_records.Given as goal
 
 abbrev pub invariant-loop-taken : goal.invariant-loop-taken

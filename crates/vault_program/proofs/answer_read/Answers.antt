@@ -2,7 +2,6 @@
 use mathlib.Core.Path.{refl, sym}
 use native.Mathlib.Omega.{arith}
 use lib.Seq.{drop-length, length-take-le}
-use borrow.Author.Rules.{rules}
 use Rattle.vault_program.proofs.Taken.{read_none, read_some}
 use Rattle.vault_program.proofs.answer_read.Goals as goal
 

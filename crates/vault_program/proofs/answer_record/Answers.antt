@@ -2,7 +2,6 @@
 use Rattle.journal.specs.Step.{blank}
 use Rattle.vault_program.specs.Program.{record_step}
 use Rattle.vault_program.proofs.Printed.{prints}
-use borrow.Author.Rules.{rules}
 use Rattle.vault_program.proofs.answer_record.Goals as goal
 
 pub returns : goal.returns

@@ -1,6 +1,5 @@
 -- `main_loop` meets its contract.
 use native.Mathlib.Omega.{arith}
-use borrow.Author.Rules.{rules}
 use Rattle.vault_program.proofs.main_loop.Goals as goal
 
 pub returns : goal.returns

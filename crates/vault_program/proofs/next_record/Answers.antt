@@ -1,6 +1,5 @@
 -- `next_record` meets its contract.
 use native.Mathlib.Omega.{arith}
-use borrow.Author.Rules.{rules}
 use Rattle.vault_program.proofs.next_record.Goals as goal
 
 pub returns : goal.returns

@@ -1,5 +1,4 @@
 -- `print_answer` meets its contract: what it writes is the line of the step's answer.
-use borrow.Author.Rules.{rules}
 use Rattle.vault_program.proofs.print_answer.Goals as goal
 
 pub write_from-is_written-requires : goal.write_from-is_written-requires

@@ -6,7 +6,6 @@ use lib.IntN.{sub_ℕ}
 use native.Mathlib.Omega.{arith}
 use Prim.Native.Nat.{ℕ}
 use mathlib.Core.Path.{ap, ◌∙◌}
-use borrow.Author.Rules.{rules}
 use Rattle.vault_program.proofs.read_value.Goals as goal
 
 pub returns : goal.returns

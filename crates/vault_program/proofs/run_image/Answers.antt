@@ -2,7 +2,6 @@
 use mathlib.Core.Path.{refl, sym}
 use native.Mathlib.Omega.{arith}
 use lib.Seq.{length-take-le}
-use borrow.Author.Rules.{rules}
 use Rattle.vault_program.proofs.Taken.{taken_none, taken_whole}
 use Rattle.vault_program.proofs.run_image.Goals as goal
 

@@ -1,6 +1,5 @@
 -- `answer_operation` meets its contract.
 use Rattle.vault_vectors.proofs.Printed.{operation_prints}
-use borrow.Author.Rules.{rules}
 use Rattle.vault_vectors.proofs.answer_operation.Goals as goal
 
 pub returns : goal.returns

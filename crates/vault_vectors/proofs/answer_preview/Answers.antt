@@ -1,6 +1,5 @@
 -- `answer_preview` meets its contract.
 use Rattle.vault_vectors.proofs.Printed.{preview_prints}
-use borrow.Author.Rules.{rules}
 use Rattle.vault_vectors.proofs.answer_preview.Goals as goal
 
 pub returns : goal.returns

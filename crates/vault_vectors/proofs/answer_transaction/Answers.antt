@@ -7,7 +7,6 @@ use lib.IntN.{sub_ℕ}
 use native.Mathlib.Omega.{arith}
 use Prim.Native.Nat.{ℕ}
 use mathlib.Core.Path.{refl, ap, ◌∙◌}
-use borrow.Author.Rules.{rules}
 use Rattle.vault_vectors.proofs.answer_transaction.Goals as goal
 
 pub returns : goal.returns

@@ -1,6 +1,5 @@
 -- `call_transaction` meets its contract.
 use Rattle.vault_vectors.proofs.Transactions.{is_begin, is_commit, is_rollback, is_undo}
-use borrow.Author.Rules.{rules}
 use Rattle.vault_vectors.proofs.call_transaction.Goals as goal
 
 pub returns-in-1 : goal.returns-in-1

@@ -1,7 +1,6 @@
 -- `write_digest` meets its contract.
 use Rattle.vault_vectors.specs.Vectors.{digest_text}
 use mathlib.Core.Path.{refl, ◌∙◌}
-use borrow.Author.Rules.{rules}
 use Rattle.vault_vectors.proofs.write_digest.Goals as goal
 
 pub returns : goal.returns

@@ -4,7 +4,6 @@ use lib.ListN.{drop, drop_of_length-le}
 use native.Mathlib.Omega.{arith}
 use mathlib.Core.List.{[]}
 use mathlib.Core.Path.{◌≡◌, refl}
-use borrow.Author.Rules.{rules}
 use Rattle.vault_vectors.proofs.write_digests.Goals as goal
 
 pub returns : goal.returns

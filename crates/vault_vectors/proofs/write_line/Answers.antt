@@ -1,7 +1,6 @@
 -- `write_line` meets its contract.
 use native.Mathlib.Omega.{arith}
 use mathlib.Core.Path.{refl, ◌∙◌}
-use borrow.Author.Rules.{rules}
 use Rattle.vault_vectors.proofs.write_line.Goals as goal
 
 pub returns : goal.returns
