@@ -1,7 +1,6 @@
 -- `batch_deposits::add_items` meets its contract.
-use Rattle.batch_deposits.proofs.Loops.{Added, sum_begins, sum_stops, sum_fits, sum_goes_on, sum_ends}
+use Rattle.batch_deposits.proofs.Loops.{sum_begins, sum_stops, sum_fits, sum_goes_on, sum_ends}
 use Rattle.amount.specs.Biased.{biased}
-use Prim.Native.Nat.{◌≤◌, ◌-◌}
 use native.Mathlib.Omega.{arith}
 use borrow.Author.Rules.{rules}
 use Rattle.batch_deposits.proofs.add_items.Goals as goal

@@ -1,9 +1,7 @@
 -- `batch_deposits::add_items` meets its contract.
-use Rattle.batch_deposits.proofs.Loops.{Added, sum_begins, sum_stops, sum_fits, sum_goes_on, sum_ends}
+use Rattle.batch_deposits.proofs.Loops.{Added}
 use Rattle.amount.specs.Biased.{biased}
 use Prim.Native.Nat.{◌≤◌, ◌-◌}
-use native.Mathlib.Omega.{arith}
-use borrow.Author.Rules.{rules}
 use Rattle.batch_deposits.proofs.add_items.Given as goal
 
 abbrev pub invariant-loop-i : goal.invariant-loop-i

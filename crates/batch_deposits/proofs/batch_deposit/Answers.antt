@@ -3,7 +3,6 @@ use Rattle.outcome.specs.FormedLaws.{count_in, item_in}
 use Rattle.record.specs.Form.{reads_items, member}
 use mathlib.Core.Path.{refl}
 use native.Mathlib.Omega.{arith}
-use borrow.Author.Rules.{rules}
 use Rattle.batch_deposits.proofs.batch_deposit.Goals as goal
 
 pub batch_deposit_of-requires : goal.batch_deposit_of-requires

@@ -2,7 +2,6 @@
 use Rattle.batch_deposits.proofs.Whole.{not-transferred, compared, collected}
 use Rattle.outcome.specs.Outcome.{refused}
 use Rattle.amount.specs.Biased.{biased}
-use borrow.Author.Rules.{rules}
 use Rattle.batch_deposits.proofs.collect.Goals as goal
 
 pub returns-then-k-ne0 : goal.returns-then-k-ne0

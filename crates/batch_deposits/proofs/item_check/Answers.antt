@@ -2,7 +2,6 @@
 use Rattle.batch_deposits.specs.Batch.{item_number}
 use Rattle.fields.specs.Rules.{link_at_lem, ends_at}
 use native.Mathlib.Omega.{arith}
-use borrow.Author.Rules.{rules}
 use Rattle.batch_deposits.proofs.item_check.Goals as goal
 
 pub returns-then-k-ne0 : goal.returns-then-k-ne0

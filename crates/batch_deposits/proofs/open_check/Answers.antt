@@ -2,7 +2,6 @@
 use Rattle.batch_deposits.specs.Batch.{open_number}
 use Rattle.fields.specs.Rules.{link_at_lem, ends_at}
 use native.Mathlib.Omega.{arith}
-use borrow.Author.Rules.{rules}
 use Rattle.batch_deposits.proofs.open_check.Goals as goal
 
 pub returns-then-k1-ne0 : goal.returns-then-k1-ne0

@@ -1,7 +1,6 @@
 -- `batch_deposits::transfer_item` meets its contract.
 use Rattle.batch_deposits.proofs.Whole.{item_moved, item_written}
 use mathlib.Core.Path.{sym, ◌∙◌}
-use borrow.Author.Rules.{rules}
 use Rattle.batch_deposits.proofs.transfer_item.Goals as goal
 
 pub returns-then-k-ne0 : goal.returns-then-k-ne0

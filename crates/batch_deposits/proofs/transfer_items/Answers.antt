@@ -1,8 +1,6 @@
 -- `batch_deposits::transfer_items` meets its contract.
-use mathlib.Core.Path.{◌≡◌, refl}
-use Rattle.batch_deposits.proofs.Loops.{Underway, begin, written_long, stops, goes_on, ends}
-use lib.ListN.{length}
-use Prim.Native.Nat.{◌≤◌, ◌-◌}
+use mathlib.Core.Path.{refl}
+use Rattle.batch_deposits.proofs.Loops.{begin, written_long, stops, goes_on, ends}
 use native.Mathlib.Omega.{arith}
 use borrow.Author.Rules.{rules}
 use Rattle.batch_deposits.proofs.transfer_items.Goals as goal

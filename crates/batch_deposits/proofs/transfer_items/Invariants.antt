@@ -1,10 +1,8 @@
 -- `batch_deposits::transfer_items` meets its contract.
-use mathlib.Core.Path.{◌≡◌, refl}
-use Rattle.batch_deposits.proofs.Loops.{Underway, begin, written_long, stops, goes_on, ends}
+use mathlib.Core.Path.{◌≡◌}
+use Rattle.batch_deposits.proofs.Loops.{Underway}
 use lib.ListN.{length}
 use Prim.Native.Nat.{◌≤◌, ◌-◌}
-use native.Mathlib.Omega.{arith}
-use borrow.Author.Rules.{rules}
 use Rattle.batch_deposits.proofs.transfer_items.Given as goal
 
 abbrev pub invariant-loop-i : goal.invariant-loop-i
