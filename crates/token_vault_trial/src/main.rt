@@ -1,5 +1,5 @@
 // Writes trial records to standard output (docs/FORMATS.md, "Trial records"). Its arguments, in decimal: START, a starting number; FIRST, the first record's number; and COUNT, how many records.
-// Where they are wrong, a line with a number goes to standard error and nothing to standard output: a program of Rattle has no exit status of its own.
+// Where they are wrong, a line with a number goes to standard error and nothing to standard output; the exit status is 0 all the same.
 #![tactic(auto)]
 
 ghost use Rattle.std.specs.Prelude.{◌≡◌, true, ◌+◌, ◌*◌, ◌^◌, ◌<◌, ◌≤◌, ltb, length};
