@@ -2,7 +2,7 @@
 use mathlib.Core.Path.{◌≡◌, refl}
 use mathlib.Core.Bool.{Bool, true, false}
 use mathlib.Core.List.{List, [], ◌∷◌}
-use Prim.Native.Nat.{ℕ, zero, suc, ◌-◌}
+use Prim.Native.Nat.{ℕ, zero, suc}
 use lib.Dec.{eqb, ltb}
 use Rattle.image.specs.Layout.{default_token, destination, vault_limit, capped_set, cap}
 use Rattle.fields.specs.Rules.{Rule, pick, verdict, chain, codes_in, AllIn, verdict_in, or_in, chain_in, pick_in}

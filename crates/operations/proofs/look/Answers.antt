@@ -4,7 +4,6 @@ use Rattle.operations.specs.Operations.{outcome_of}
 use Rattle.outcome.specs.Outcome.{formed_as}
 use Rattle.record.specs.Form.{is_view}
 use mathlib.Core.Path.{sym, ap, ◌∙◌}
-use borrow.Author.Rules.{rules}
 use Rattle.operations.proofs.look.Goals as goal
 
 pub balance-requires : goal.balance-requires

@@ -5,7 +5,6 @@ use Rattle.outcome.specs.Outcome.{formed_as}
 use Rattle.record.specs.Laws.{form_operation}
 use mathlib.Core.Path.{sym, ap, ◌∙◌}
 use Rattle.record.specs.Form.{is_view}
-use borrow.Author.Rules.{rules}
 use Rattle.operations.proofs.operate.Goals as goal
 
 pub initialize-requires : goal.initialize-requires
