@@ -4,7 +4,6 @@ use Rattle.journal.specs.Calls.{operation}
 use Rattle.storage.specs.Facts.{facts}
 use Rattle.token_vault.proofs.Called.{view_decided, stops, replies, good_state, bad_state, bad_call, viewed, operated_is}
 use Rattle.token_vault.proofs.Accepted.{call_long}
-use borrow.Author.Rules.{rules}
 use Rattle.token_vault.proofs.answer_call.Goals as goal
 
 pub returns-then-k1-ne0 : goal.returns-then-k1-ne0

@@ -4,8 +4,6 @@ use Rattle.storage.specs.Facts.{facts}
 use Rattle.token_vault.proofs.Previewed.{preview_good, preview_30, preview_malformed}
 use Rattle.token_vault.proofs.Called.{view_decided, stopped}
 use Rattle.token_vault.proofs.Accepted.{call_long}
-use borrow.Author.Tests.{not-true, not-false}
-use borrow.Author.Rules.{rules}
 use Rattle.token_vault.proofs.answer_preview.Goals as goal
 
 pub returns-then-not-good_image : goal.returns-then-not-good_image

@@ -2,7 +2,6 @@
 use Rattle.image.specs.Layout.{cells}
 use Rattle.journal.specs.Calls.{Call}
 use Rattle.token_vault.proofs.Called.{good_state, journal_refused, journal_step, vault_begin}
-use borrow.Author.Rules.{rules}
 use Rattle.token_vault.proofs.begin.Goals as goal
 
 pub returns-then-k-ne0 : goal.returns-then-k-ne0

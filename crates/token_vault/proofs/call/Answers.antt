@@ -1,7 +1,6 @@
 -- `token_vault::call` meets its contract.
 use Rattle.events.specs.Splice.{amount_bytes}
 use mathlib.Core.Path.{ap, ◌∙◌}
-use borrow.Author.Rules.{rules}
 use Rattle.token_vault.proofs.call.Goals as goal
 
 pub returns : goal.returns

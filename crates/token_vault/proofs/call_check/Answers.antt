@@ -1,6 +1,5 @@
 -- `token_vault::call_check` meets its contract.
 use Rattle.token_vault.proofs.Called.{form_refused, buffer_decides}
-use borrow.Author.Rules.{rules}
 use Rattle.token_vault.proofs.call_check.Goals as goal
 
 pub returns-then-k-ne0 : goal.returns-then-k-ne0

@@ -1,9 +1,7 @@
 -- `token_vault::enter_changes` meets its contract.
 use mathlib.Core.Path.{sym, ◌∙◌}
 use native.Mathlib.Omega.{arith}
-use borrow.Author.Tests.{not-true, not-false}
 use Rattle.token_vault.proofs.Called.{entered_34, entered_all, entered-none}
-use borrow.Author.Rules.{rules}
 use Rattle.token_vault.proofs.enter_changes.Goals as goal
 
 pub returns-then-not-is_open : goal.returns-then-not-is_open

@@ -1,7 +1,6 @@
 -- `token_vault::keep` meets its contract.
 use mathlib.Core.Path.{refl}
 use Rattle.token_vault.proofs.Called.{keeps}
-use borrow.Author.Rules.{rules}
 use Rattle.token_vault.proofs.keep.Goals as goal
 
 pub returns-then-k-eq0 : goal.returns-then-k-eq0

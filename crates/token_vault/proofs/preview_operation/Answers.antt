@@ -1,5 +1,4 @@
 -- `token_vault::preview_operation` meets its contract.
-use borrow.Author.Rules.{rules}
 use Rattle.token_vault.proofs.preview_operation.Goals as goal
 
 pub try_operation-requires : goal.try_operation-requires

@@ -5,7 +5,6 @@ use Rattle.journal.proofs.Dispatch.{operated-refused}
 use Rattle.journal.specs.Step.{vault, blank}
 use Rattle.image.specs.Layout.{cells}
 use mathlib.Core.Path.{sym, ◌∙◌}
-use borrow.Author.Rules.{rules}
 use Rattle.token_vault.proofs.run_operation.Goals as goal
 
 pub try_operation-a-requires : goal.try_operation-a-requires

@@ -1,7 +1,6 @@
 -- `token_vault::run_view` meets its contract.
 use Rattle.token_vault.proofs.Called.{own_refused, view-done}
 use Rattle.token_vault.proofs.Accepted.{form_zero}
-use borrow.Author.Rules.{rules}
 use Rattle.token_vault.proofs.run_view.Goals as goal
 
 pub look-a-requires : goal.look-a-requires

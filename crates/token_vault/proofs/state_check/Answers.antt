@@ -1,8 +1,6 @@
 -- `token_vault::state_check` meets its contract.
 use mathlib.Core.Path.{sym, ◌∙◌}
-use borrow.Author.Tests.{not-true, not-false}
 use Rattle.token_vault.proofs.Called.{state_30, state_31, state_0}
-use borrow.Author.Rules.{rules}
 use Rattle.token_vault.proofs.state_check.Goals as goal
 
 pub returns-then-not-is_image_good : goal.returns-then-not-is_image_good

@@ -2,7 +2,6 @@
 use Rattle.token_vault.proofs.Called.{tried, tried_refused}
 use Rattle.token_vault.proofs.Accepted.{form_zero}
 use mathlib.Core.Path.{refl}
-use borrow.Author.Rules.{rules}
 use Rattle.token_vault.proofs.try_operation.Goals as goal
 
 pub operate-a-requires : goal.operate-a-requires

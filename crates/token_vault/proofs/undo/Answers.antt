@@ -2,7 +2,6 @@
 use Rattle.storage.specs.Facts.{facts}
 use Rattle.journal.specs.Calls.{Call}
 use Rattle.token_vault.proofs.Called.{good_state, journal_refused, journal_step, vault_undo}
-use borrow.Author.Rules.{rules}
 use Rattle.token_vault.proofs.undo.Goals as goal
 
 pub returns-then-k-ne0 : goal.returns-then-k-ne0

@@ -1,7 +1,6 @@
 -- `token_vault::write_answer` meets its contract.
 use Rattle.events.specs.Splice.{put_amount_whole}
 use mathlib.Core.Path.{refl, ◌∙◌}
-use borrow.Author.Rules.{rules}
 use Rattle.token_vault.proofs.write_answer.Goals as goal
 
 pub returns : goal.returns
