@@ -1,9 +1,10 @@
 -- One piece of records.
 use mathlib.Core.Path.{◌≡◌, sym, ap, ◌∙◌}
-use mathlib.Core.List.{List}
+use mathlib.Core.List.{List, ◌++◌}
 use Prim.Native.Nat.{ℕ, ◌+◌, ◌*◌, ◌^◌, ◌≤◌}
 use native.Mathlib.Omega.{arith}
-use lib.ListN.{length}
+use lib.ListN.{length, take}
+use lib.Seq.{take_at}
 use Rattle.trial_records.specs.Laws.{records_long, records_made, reached_parts}
 use Rattle.trial_records.specs.Trial.{Trial, records_from, reached_from, trial, TrialIs}
 use Rattle.token_vault_trial.specs.Run.{IsPiece}
@@ -23,3 +24,7 @@ module _ (start first made n last : ℕ) (l m : List ℕ) (number reached : ℕ)
 
   pub piece_long : length m ≡ 448 * n
   piece_long = ap length piece_made ∙ records_long (reached_from start made) (first + made) n
+
+  -- of the whole buffer, whose rest is d, the records are lent
+  pub piece_lent : (d : List ℕ) → take (448 * n) (m ++ d) ≡ records_from (reached_from start made) (first + made) n
+  piece_lent d = take_at m d (448 * n) piece_long ∙ piece_made

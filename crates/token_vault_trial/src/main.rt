@@ -3,7 +3,8 @@
 #![tactic(auto)]
 
 ghost use Rattle.std.specs.Prelude.{◌≡◌, true, ◌+◌, ◌*◌, ◌^◌, ◌<◌, ◌≤◌, ltb, length};
-ghost use Rattle.trial_records.specs.Trial.{reached_from};
+ghost use Rattle.std.specs.Io.KnownBytes.{Appends};
+ghost use Rattle.trial_records.specs.Trial.{records_from, reached_from};
 ghost use Rattle.token_vault_trial.specs.Arguments.{malformed, is_digit, digits_after, read_decimal, argument_fault, fault_text, fault_line};
 ghost use Rattle.token_vault_trial.specs.Run.{reading_of, IsPiece, RunIs};
 
@@ -150,6 +151,7 @@ fn write_piece<O: Write>(
     n: u64,
 ) -> bool
     requires { IsPiece start first made n piece.now }
+    ensures { result ≡ true → Appends (O.contents output.old) (O.contents output.new) piece.now }
 {
     streams::write_all(output, piece)
 }
@@ -182,7 +184,8 @@ fn make_piece<O: Write>(
     n: u64,
 ) -> Piece
     requires { (length buffer.old ≡ 57344) × (n ≤ 128) × (last ≡ reached_from start made) × (1 ≤ first) × (first + made + n ≤ 2 ^ 32) }
-    ensures { (result.n ≡ n) × (result.reached ≡ reached_from start (made + n)) }
+    ensures reached { (result.n ≡ n) × (result.reached ≡ reached_from start (made + n)) }
+    ensures written { result.is_written ≡ true → Appends (O.contents output.old) (O.contents output.new) (records_from (reached_from start made) (first + made) n) }
 {
     let end = 448 * n as usize;
     let mut reached = 0u64;
@@ -205,7 +208,8 @@ fn next_piece<O: Write>(
     left: u64,
 ) -> Piece
     requires { (last ≡ reached_from start made) × (1 ≤ first) × (first + made + left ≤ 2 ^ 32) × (0 < left) }
-    ensures { (result.reached ≡ reached_from start (made + result.n)) × (0 < result.n) × (result.n ≤ left) }
+    ensures reached { (result.reached ≡ reached_from start (made + result.n)) × (0 < result.n) × (result.n ≤ left) }
+    ensures written { result.is_written ≡ true → Appends (O.contents output.old) (O.contents output.new) (records_from (reached_from start made) (first + made) result.n) }
 {
     let n = piece_size(left);
     make_piece(output, buffer, start, first, made, last, n)
@@ -219,7 +223,8 @@ struct Written {
 
 fn write_records<O: Write>(output: &mut O, start: u64, first: u64, count: u64) -> Written
     requires { (1 ≤ first) × (first + count ≤ 2 ^ 32) }
-    ensures { result.is_written ≡ true → result.made ≡ count }
+    ensures made { result.is_written ≡ true → result.made ≡ count }
+    ensures written { result.is_written ≡ true → Appends (O.contents output.old) (O.contents output.new) (records_from start first count) }
 {
     let mut buffer = [0u8; 57344];
     let mut last = start;
@@ -245,12 +250,14 @@ fn write_records<O: Write>(output: &mut O, start: u64, first: u64, count: u64) -
 // Every byte of standard error goes through here, and all of them are the line of a fault.
 fn write_fault_line<E: Write>(error: &mut E, line: &[u8], fault: u8) -> bool
     requires { (line.now ≡ fault_line fault) × (0 < fault) × (fault ≤ 6) }
+    ensures { result ≡ true → Appends (E.contents error.old) (E.contents error.new) (fault_line fault) }
 {
     streams::write_all(error, line)
 }
 
 fn write_sentence<E: Write>(error: &mut E, sentence: &[u8], fault: u8) -> bool
     requires { (sentence.now ≡ fault_text fault) × (length sentence.now ≤ 80) × (0 < fault) × (fault ≤ 6) }
+    ensures { result ≡ true → Appends (E.contents error.old) (E.contents error.new) (fault_line fault) }
 {
     let mut out = [0u8; 128];
     let start = answer_line::write_message(&mut out, 128, b"token_vault_trial: ", sentence);
@@ -260,6 +267,7 @@ fn write_sentence<E: Write>(error: &mut E, sentence: &[u8], fault: u8) -> bool
 
 fn write_fault<E: Write>(error: &mut E, fault: u8) -> bool
     requires { (0 < fault) × (fault ≤ 6) }
+    ensures { result ≡ true → Appends (E.contents error.old) (E.contents error.new) (fault_line fault) }
 {
     match fault {
         1 => write_sentence(
@@ -307,7 +315,11 @@ fn run<O: Write, E: Write>(
     first: Decimal,
     count: Decimal,
 ) -> Ended
-    ensures { RunIs (argument_fault words start.is_number first.is_number count.is_number first.number count.number) count.number result.fault result.made result.is_written }
+    ensures ended { RunIs (argument_fault words start.is_number first.is_number count.is_number first.number count.number) count.number result.fault result.made result.is_written }
+    ensures written { result.fault ≡ 0 → result.is_written ≡ true → Appends (O.contents output.old) (O.contents output.new) (records_from start.number first.number count.number) }
+    ensures no_record { 0 < result.fault → output.new ≡ output.old }
+    ensures said { 0 < result.fault → result.is_written ≡ true → Appends (E.contents error.old) (E.contents error.new) (fault_line result.fault) }
+    ensures nothing_said { result.fault ≡ 0 → error.new ≡ error.old }
 {
     let fault = argument_fault(words, start, first, count);
     if fault != 0 {

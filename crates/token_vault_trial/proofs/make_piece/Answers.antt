@@ -1,10 +1,11 @@
 -- `make_piece` meets its contract.
-use mathlib.Core.Path.{refl, sym, ap, ◌∙◌}
+use mathlib.Core.Path.{refl, sym, ap, subst, ◌∙◌}
 use Prim.Native.Nat.{◌*◌}
 use native.Mathlib.Omega.{arith}
 use lib.ListN.{length, drop}
 use lib.Seq.{length-take-le, take_at}
-use Rattle.token_vault_trial.proofs.Pieces.{piece_made, piece_reached, piece_long}
+use Rattle.token_vault_trial.proofs.Pieces.{piece_lent, piece_reached, piece_long}
+use Rattle.std.specs.Io.KnownBytes.{Appends}
 use Rattle.token_vault_trial.proofs.make_piece.Goals as goal
 
 pub slice_bounds-trial_records-end-2 : goal.slice_bounds-trial_records-end-2
@@ -20,11 +21,17 @@ slice_bounds-write_piece-end-2 g c =
 pub write_piece-is_written-requires : goal.write_piece-is_written-requires
 write_piece-is_written-requires g c =
     let x = c.args in
-    let t = c.trial_records in
-    take_at _ _ (448 * x.n) (piece_long x.start x.first x.made x.n x.last _ _ _ _ c.requires.2 (length-take-le (448 * x.n) _ (let p = c.requires in omega arith)) c.requires.3 c.requires.4 t.ensures) ∙ piece_made x.start x.first x.made x.n x.last _ _ _ _ c.requires.2 (length-take-le (448 * x.n) _ (let p = c.requires in omega arith)) c.requires.3 c.requires.4 t.ensures
+    piece_lent x.start x.first x.made x.n x.last _ _ _ _ c.requires.2 (length-take-le (448 * x.n) _ (let p = c.requires in omega arith)) c.requires.3 c.requires.4 c.trial_records.ensures _
 
-pub returns : goal.returns
-returns g c =
+pub returns-clause-reached : goal.returns-clause-reached
+returns-clause-reached g c =
     let x = c.args in
     let t = c.trial_records in
     (refl, piece_reached x.start x.first x.made x.n x.last _ _ _ _ c.requires.2 (length-take-le (448 * x.n) _ (let p = c.requires in omega arith)) c.requires.3 c.requires.4 t.ensures)
+
+pub returns-clause-written : goal.returns-clause-written
+returns-clause-written g c = λ e.
+    let x = c.args in
+    subst (Appends (g.O.Write.contents c.args.output.now) (g.O.Write.contents c.write_piece-is_written.new.output))
+    (piece_lent x.start x.first x.made x.n x.last _ _ _ _ c.requires.2 (length-take-le (448 * x.n) _ (let p = c.requires in omega arith)) c.requires.3 c.requires.4 c.trial_records.ensures _)
+    (c.write_piece-is_written.ensures e)
