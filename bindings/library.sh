@@ -40,7 +40,7 @@ if [ -f "$archive" ] && [ -f "$made_from" ] && [ "$(digest)" = "$(cat "$made_fro
     exit 0
 fi
 if [ "$name" = token_vault_abi ]; then
-    echo "Proving the library: about seven minutes on two cores the first time, less where crates were proved before." >&2
+    echo "Proving the library: some minutes the first time, less where crates were proved before." >&2
     echo "What the prover prints goes to target/library.log." >&2
 fi
 mkdir -p target/staticlib

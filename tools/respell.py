@@ -4,7 +4,7 @@
 usage: tools/respell.py            rewrites crates/ in place, and writes tools/respelled.tsv
        tools/respell.py --print    prints the table and changes nothing
 
-Only names that specs/ and the files right in proofs/ define are renamed, wherever they stand in .rt and .antt files. Run once, after port.py.
+Only names that specs/ and the files right in proofs/ define are renamed, wherever they stand in .rt and .antt files. Run once, after port.py (whose own renamings of names of this repository are in tools/respelled_by_port.tsv).
 """
 import glob
 import os
