@@ -1,0 +1,3 @@
+-- The numbers of refusals.
+pub mod Numbers
+pub mod Laws

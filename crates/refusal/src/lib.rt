@@ -1,0 +1,82 @@
+// The refusals of docs/FORMATS.md: an error enum, and the number of each.
+#![tactic(auto)]
+
+ghost use Rattle.std.specs.Prelude.{◌≡◌};
+ghost use Rattle.refusal.specs.Numbers.{number_of};
+
+#[derive(Clone, Copy, Debug, PartialEq, Eq, Hash)]
+pub enum Refusal {
+    NotInitialized,
+    AlreadyInitialized,
+    NotAuthorized,
+    InvalidAmount,
+    DepositExceedsMax,
+    LimitExceeded,
+    ArithmeticOverflow,
+    ContractPaused,
+    InvalidToken,
+    TokenNotApproved,
+    VaultBalanceChanged,
+    DepositTransferFailed,
+    WithdrawTransferFailed,
+    InvalidParam,
+    NoPendingOwner,
+    NotPendingOwner,
+    PendingOwnerExpired,
+    AlreadyPaused,
+    NotPaused,
+    NoMigrationProposed,
+    TimelockNotExpired,
+    SignatureMissing,
+    TokenCallFailed,
+    InvalidImage,
+    InvalidJournal,
+    InvalidRecord,
+    InvalidEventBuffer,
+    JournalFull,
+    NoTransaction,
+    TransactionOpen,
+    NothingToUndo,
+    InvalidTollBounds,
+}
+
+impl From<Refusal> for u8 {
+    ghost from_gives = { λ r n. n ≡ number_of r };
+
+    fn from(refusal: Refusal) -> u8 {
+        match refusal {
+            Refusal::NotInitialized => 1,
+            Refusal::AlreadyInitialized => 2,
+            Refusal::NotAuthorized => 3,
+            Refusal::InvalidAmount => 4,
+            Refusal::DepositExceedsMax => 5,
+            Refusal::LimitExceeded => 6,
+            Refusal::ArithmeticOverflow => 7,
+            Refusal::ContractPaused => 8,
+            Refusal::InvalidToken => 9,
+            Refusal::TokenNotApproved => 10,
+            Refusal::VaultBalanceChanged => 11,
+            Refusal::DepositTransferFailed => 12,
+            Refusal::WithdrawTransferFailed => 13,
+            Refusal::InvalidParam => 14,
+            Refusal::NoPendingOwner => 15,
+            Refusal::NotPendingOwner => 16,
+            Refusal::PendingOwnerExpired => 17,
+            Refusal::AlreadyPaused => 18,
+            Refusal::NotPaused => 19,
+            Refusal::NoMigrationProposed => 20,
+            Refusal::TimelockNotExpired => 21,
+            Refusal::SignatureMissing => 22,
+            Refusal::TokenCallFailed => 23,
+            Refusal::InvalidImage => 30,
+            Refusal::InvalidJournal => 31,
+            Refusal::InvalidRecord => 32,
+            Refusal::InvalidEventBuffer => 33,
+            Refusal::JournalFull => 34,
+            Refusal::NoTransaction => 35,
+            Refusal::TransactionOpen => 36,
+            Refusal::NothingToUndo => 37,
+            Refusal::InvalidTollBounds => 46,
+        }
+    }
+}
