@@ -1,13 +1,20 @@
 -- `fields::same_bytes` meets its contract.
+use Rattle.std.proofs.Common.{arith, length, length-append}
+use Rattle.std.proofs.lemmas.Slice.Zip.{zip_turn, zip_end}
 use Rattle.fields.proofs.Loops.{same_none, same_step, same-done}
-use borrow.Author.Rules.{rules}
 use Rattle.fields.proofs.same_bytes.Goals as goal
 
-pub loop-i-init : goal.loop-i-init
-loop-i-init c = (search rules, same_none c.args.a.now c.args.b.now)
+pub loop-x-init : goal.loop-x-init
+loop-x-init c = same_none c.args.a.now c.args.b.now
 
-pub loop-i-preserved : goal.loop-i-preserved
-loop-i-preserved c = let l = c.loop-i in let x = c.args in (search rules, same_step x.a.now x.b.now l.i l.d (search rules) (search rules) l.invariant.1)
+pub loop-x-preserved : goal.loop-x-preserved
+loop-x-preserved c =
+    let l = c.loop-x in
+    let t = zip_turn c.args.a.now c.args.b.now l.yielded c.into_iter-x-iterator.result l.x-iterator c.next.new.self c.next.result (cc) (cc) l.yielded_by _ c.in-Some.is c.next.ensures.steps in
+    rw (length-append, t.2 0, t.3 0) (same_step c.args.a.now c.args.b.now (length l.yielded) l.difference t.0 t.1 l.invariant)
 
 pub returns : goal.returns
-returns c = let l = c.loop-i in let x = c.args in same-done x.a.now x.b.now l.i l.d (search rules) (search rules) l.invariant.1
+returns c =
+    let l = c.loop-x in
+    let n = zip_end c.args.a.now c.args.b.now l.yielded c.into_iter-x-iterator.result l.x-iterator c.next.new.self c.next.result (cc) (cc) l.yielded_by c.in-None.is c.next.ensures.steps in
+    same-done c.args.a.now c.args.b.now (length l.yielded) l.difference (omega arith) (omega (arith, n)) l.invariant

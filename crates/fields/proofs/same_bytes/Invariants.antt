@@ -1,13 +1,7 @@
 -- `fields::same_bytes` meets its contract.
-use mathlib.Core.Path.{◌≡◌}
-use Prim.Native.Nat.{◌≤◌, ◌-◌}
-use lib.Dec.{eqb}
-use lib.ListN.{length, take}
+use Rattle.std.proofs.Common.{◌≡◌, eqb, length, take}
 use Rattle.fields.specs.Same.{same_bytes_of}
 use Rattle.fields.proofs.same_bytes.Given as goal
 
-abbrev pub invariant-loop-i : goal.invariant-loop-i
-invariant-loop-i l = (l.i ≤ length l.a) × (eqb l.d 0 ≡ same_bytes_of (take l.i l.a) (take l.i l.b))
-
-abbrev pub decreases-loop-i : goal.decreases-loop-i
-decreases-loop-i l = length l.a - l.i
+abbrev pub invariant-loop-x : goal.invariant-loop-x
+invariant-loop-x l = eqb l.difference 0 ≡ same_bytes_of (take (length l.yielded) l.a) (take (length l.yielded) l.b)

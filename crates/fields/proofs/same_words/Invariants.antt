@@ -1,13 +1,7 @@
 -- `fields::same_words` meets its contract.
-use mathlib.Core.Path.{◌≡◌}
-use Prim.Native.Nat.{◌≤◌, ◌-◌, ◌%◌}
-use lib.Dec.{eqb}
-use lib.ListN.{length, take}
+use Rattle.std.proofs.Common.{◌≡◌, ◌%◌, ◌≤◌, eqb, length, take}
 use Rattle.fields.specs.Same.{same_bytes_of}
 use Rattle.fields.proofs.same_words.Given as goal
 
 abbrev pub invariant-loop-i : goal.invariant-loop-i
-invariant-loop-i l = (l.i ≤ length l.a) × (l.i % 8 ≡ 0) × (eqb l.d 0 ≡ same_bytes_of (take l.i l.a) (take l.i l.b))
-
-abbrev pub decreases-loop-i : goal.decreases-loop-i
-decreases-loop-i l = length l.a - l.i
+invariant-loop-i l = (l.i ≤ length l.a) × (l.i % 8 ≡ 0) × (eqb l.difference 0 ≡ same_bytes_of (take l.i l.a) (take l.i l.b))
