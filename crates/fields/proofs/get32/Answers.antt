@@ -1,7 +1,12 @@
 -- `fields::get32` meets its contract.
-use native.Mathlib.Omega.{arith}
-use Rattle.fields.specs.Bytes.{le_split}
+use Rattle.std.proofs.Common.{◌≡◌, ◌+◌, ◌-◌, take, drop, arith, rules}
+use Rattle.fields.specs.Bytes.{le}
+use Rattle.fields.proofs.Numbers.{le-part}
 use Rattle.fields.proofs.get32.Goals as goal
 
 pub returns : goal.returns
-returns c = rw (le_split 2 2) (omega arith)
+unfolding le
+returns c =
+    let x = c.args in
+    let e : c.unwrap.result ≡ take (x.at + 4 - x.at) (drop x.at x.s.now) = search rules in
+    rw (← le-part 4 x.s.now x.at, ← e) (omega arith)
