@@ -80,7 +80,7 @@ sub_neg a (suc b) = refl
 neg_sub : (x lo : ℕ) → neg_ℤ (pos x) +ℤ pos lo ≡ sub_ℕ lo x
 neg_sub x lo = +ℤ_comm (neg_ℤ (pos x)) (pos lo) ∙ sym (sub_neg lo x)
 
-neg_of_sub : (a b : ℕ) → neg_ℤ (sub_ℕ a b) ≡ sub_ℕ b a
+pub neg_of_sub : (a b : ℕ) → neg_ℤ (sub_ℕ a b) ≡ sub_ℕ b a
 neg_of_sub a b =
     ap neg_ℤ (sub_neg a b) ∙ neg_ℤ-+ℤ (pos a) (neg_ℤ (pos b)) ∙ ap (λ (z : ℤ). neg_ℤ (pos a) +ℤ z) (neg_ℤ-neg_ℤ (pos b)) ∙ neg_sub a b
 

@@ -1,20 +1,11 @@
 -- `amount::read_amount` meets its contract.
-use Rattle.std.proofs.Common.{◌≡◌, ◌-◌, ◌^◌, ◌<◌, arith}
-use Rattle.amount.specs.Biased.{amount_at, biased}
-use Rattle.amount.proofs.Signed.{number, read}
+use Rattle.std.proofs.Common.{arith}
+use Rattle.amount.specs.Biased.{amount_at}
+use Rattle.amount.proofs.Integers.{joined}
 use Rattle.amount.proofs.read_amount.Goals as goal
 
-pub returns-then-bits-lt-SIGN_BIT : goal.returns-then-bits-lt-SIGN_BIT
-unfolding amount_at biased
-returns-then-bits-lt-SIGN_BIT c =
-    let n = c.get64-bits.result in
-    let h : n < 2 ^ 64 = omega arith in
-    rw (number (read n h)) (cc)
-
 pub returns : goal.returns
-unfolding amount_at biased
+unfolding amount_at
 returns c =
-    let n = c.get64-bits.result in
-    let h : n < 2 ^ 64 = omega arith in
-    let e : 2 ^ 64 - 1 - (2 ^ 64 - 1 - n) ≡ n = omega arith in
-    rw (e, number (read n h)) (cc)
+    rw (c.cast_signed.ensures, c.from-high.ensures, c.from-low.ensures, ← c.get64.ensures, ← c.get64-2.ensures)
+    (joined c.get64-2.result c.get64.result (omega arith) (omega arith))

@@ -1,12 +1,12 @@
 -- `amount::write_amount` meets its contract.
-use Rattle.std.proofs.Common.{◌^◌, ◌<◌, arith}
+use Rattle.std.proofs.Common.{rules, SFits}
+use Rattle.std.specs.Int.{w128}
 use Rattle.amount.specs.Biased.{put_amount}
-use Rattle.amount.specs.Laws.{biased_lo, biased_hi}
+use Rattle.amount.proofs.Integers.{bits_low, bits_high}
 use Rattle.amount.proofs.write_amount.Goals as goal
 
 pub returns : goal.returns
 unfolding put_amount
 returns c =
-    let a = c.args.a in
-    let h : a.lo < 2 ^ 64 = omega arith in
-    rw (biased_lo a h, biased_hi a h) (cc)
+    let f : SFits w128 c.args.a.0 = search rules in
+    rw (← bits_low c.args.a f, ← bits_high c.args.a f) (cc)

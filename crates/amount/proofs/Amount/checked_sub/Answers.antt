@@ -1,0 +1,18 @@
+-- `Amount::checked_sub` meets its contract.
+use Rattle.std.proofs.Common.{rules, ◌∙◌, SFits}
+use Rattle.std.specs.Int.{w128}
+use Rattle.amount.specs.Value.{none_of}
+use Rattle.amount.proofs.Integers.{gives, subtracted}
+use Rattle.amount.proofs.Amount.checked_sub.Goals as goal
+
+pub returns-in_err-difference : goal.returns-in_err-difference
+returns-in_err-difference c =
+    let f : SFits w128 c.args.self.0 = search rules in
+    let g : SFits w128 c.args.rhs.0 = search rules in
+    c.from_residual.ensures ∙ none_of _ (subtracted c.args.self c.args.rhs f g) c.in_err-difference.ensures
+
+pub returns : goal.returns
+returns c =
+    let f : SFits w128 c.args.self.0 = search rules in
+    let g : SFits w128 c.args.rhs.0 = search rules in
+    gives _ (subtracted c.args.self c.args.rhs f g) c.in_ok-difference.ensures
