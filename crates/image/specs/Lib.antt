@@ -2,3 +2,4 @@
 pub mod Layout
 pub mod Good
 pub mod Laws
+pub mod Flags

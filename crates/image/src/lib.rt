@@ -1,9 +1,11 @@
 // Whether an image is good: one function for each part of the definition.
 #![tactic(auto)]
 
+mod flag;
+
 ghost use Rattle.std.specs.Prelude.{◌≡◌, ◌+◌, ◌*◌, ◌≤◌, ◌<◌, ltb, leb, eqb, length};
 ghost use Rattle.fields.specs.Bytes.{le};
-ghost use Rattle.amount.specs.Biased.{amount_at, bias, sign_of};
+ghost use Rattle.amount.specs.Biased.{amount_at, bias};
 ghost use Rattle.image.specs.Layout.{image_length, bit};
 ghost use Rattle.fields.specs.Logic.{all};
 ghost use Rattle.image.specs.Good.{
@@ -26,6 +28,7 @@ ghost use Rattle.image.specs.Good.{
 };
 
 use fields::{both, either};
+pub use flag::Flag;
 
 fn below(a: u64, b: u64) -> bool
     ensures { result ≡ ltb a b }
@@ -68,18 +71,11 @@ fn zero64_at(s: &[u8], at: usize) -> bool
     fields::get64(s, at) == 0
 }
 
-fn sign_at(s: &[u8], at: usize) -> u8
-    requires { at + 16 ≤ length s.now }
-    ensures { result ≡ sign_of (amount_at s.now at) }
-{
-    amount::sign(amount::read_amount(s, at))
-}
-
 fn above_at(s: &[u8], at: usize) -> bool
     requires { at + 16 ≤ length s.now }
     ensures { result ≡ ltb bias (amount_at s.now at) }
 {
-    sign_at(s, at) == 2
+    amount::read_amount(s, at).is_positive()
 }
 
 fn nothing_at(s: &[u8], at: usize) -> bool
@@ -93,7 +89,7 @@ fn not_negative_at(s: &[u8], at: usize) -> bool
     requires { at + 16 ≤ length s.now }
     ensures { result ≡ leb bias (amount_at s.now at) }
 {
-    sign_at(s, at) != 0
+    !amount::read_amount(s, at).is_negative()
 }
 
 fn above_where(s: &[u8], at: usize, set: u64, k: u64) -> bool

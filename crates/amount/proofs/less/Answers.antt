@@ -1,6 +1,6 @@
 -- `amount::less` meets its contract.
 use Rattle.std.proofs.Common.{rules, ◌∙◌}
-use Rattle.amount.specs.Value.{less_is}
+use Rattle.amount.specs.Order.{less_is}
 use Rattle.amount.proofs.less.Goals as goal
 
 pub returns : goal.returns

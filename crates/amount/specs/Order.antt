@@ -1,0 +1,50 @@
+-- The comparisons of two amounts are those of their numbers.
+use Rattle.std.specs.Prelude.{◌≡◌, ℕ, ◌<◌, ◌≤◌, Bool, true, false, cond, pos, FitsSigned, int_lt, nat_lt, refl}
+use Rattle.std.proofs.Common.{◌∙◌, sym, add-zero, Less, Equal, Greater, arith, lt-ltb, le-ltb, ltb-true, ltb-false}
+use Rattle.std.specs.Int.{w128}
+use Rattle.std.specs.Ordering.{is_lt, is_gt, int_cmp}
+use Rattle.amount.specs.declared.Amount.{Amount}
+use Rattle.amount.specs.Biased.{bias, biased}
+use Rattle.amount.specs.Laws.{by_lt, biased_from}
+use Rattle.amount.specs.Value.{value, less_value}
+
+-- the number of zero
+pub biased_zero : biased (record { 0 = pos 0 }) ≡ bias
+biased_zero = biased_from 0 ∙ add-zero bias
+
+ranked : (s t : Bool) → is_lt (cond s Less (cond t Greater Equal)) ≡ s
+ranked true t = refl
+ranked false true = refl
+ranked false false = refl
+
+ranked_gt : (m n : ℕ) → is_gt (cond (nat_lt m n) Less (cond (nat_lt n m) Greater Equal)) ≡ nat_lt n m
+ranked_gt m n =
+    by_lt m n (is_gt (cond (nat_lt m n) Less (cond (nat_lt n m) Greater Equal)) ≡ nat_lt n m)
+    (λ h. let k : m ≤ n = omega arith in rw (lt-ltb m n h, le-ltb n m k))
+    (λ h. rw (le-ltb m n h) (go (nat_lt n m)))
+  where
+    go : (t : Bool) → is_gt (cond t Greater Equal) ≡ t
+    go true = refl
+    go false = refl
+
+module _ (a b : Amount) (f : FitsSigned w128 a.0) (g : FitsSigned w128 b.0) where
+  -- what `<` answers
+  pub less_is : is_lt (int_cmp a.0 b.0) ≡ nat_lt (biased a) (biased b)
+  unfolding value
+  less_is = ranked (int_lt a.0 b.0) (int_lt b.0 a.0) ∙ less_value a b f g
+
+  -- what `>` answers
+  pub greater_is : is_gt (int_cmp a.0 b.0) ≡ nat_lt (biased b) (biased a)
+  unfolding value
+  greater_is =
+      let p : int_lt a.0 b.0 ≡ nat_lt (biased a) (biased b) = less_value a b f g in
+      let q : int_lt b.0 a.0 ≡ nat_lt (biased b) (biased a) = less_value b a g f in
+      rw (p, q) (ranked_gt (biased a) (biased b))
+
+-- t is the answer of a comparison
+module _ {t : Bool} (a b : Amount) (f : FitsSigned w128 a.0) (g : FitsSigned w128 b.0) where
+  pub lt_true : t ≡ is_lt (int_cmp a.0 b.0) → t ≡ true → biased a < biased b
+  lt_true e h = ltb-true (biased a) (biased b) (sym (e ∙ less_is a b f g) ∙ h)
+
+  pub lt_false : t ≡ is_lt (int_cmp a.0 b.0) → t ≡ false → biased b ≤ biased a
+  lt_false e h = ltb-false (biased a) (biased b) (sym (e ∙ less_is a b f g) ∙ h)
