@@ -1,9 +1,9 @@
 -- Rounds and blocks: one more of each, whole blocks before the padding, and the padded end.
-use Rattle.std.proofs.Common.{◌≡◌, ℕ, zero, suc, ◌+◌, ◌-◌, ◌*◌, ◌/◌, ◌%◌, ◌^◌, ◌<◌, ◌≤◌, List, ◌∷◌, ◌++◌, length, get_or, take, drop, set, replicate, sym, refl, ap, ◌∙◌, append_assoc, add-zero, add-suc, mul_comm, mul-div_cancel, add-one, arith, lit<, length-append, length-drop, take-append-drop, length-take-le, take_all, drop-drop, take_at, drop_at}
+use Rattle.std.proofs.Common.{◌≡◌, ℕ, zero, suc, ◌+◌, ◌-◌, ◌*◌, ◌/◌, ◌%◌, ◌^◌, ◌≤◌, List, ◌∷◌, ◌++◌, length, get_or, take, drop, replicate, sym, refl, ap, ◌∙◌, append_assoc, add-zero, add-suc, mul_comm, mul-div_cancel, add-one, arith, lit<, length-append, length-drop, take-append-drop, length-take-le, take_all, drop-drop, take_at}
 use native.Mathlib.Nat.{mul-mod_left}
 use lib.Arith.{mod-mul}
 use lib.ListN.{length-replicate, replicate-append-replicate}
-use lib.Seq.{set_at, drop-append-le, take-append-le}
+use lib.Seq.{drop-append-le, take-append-le}
 use Rattle.sha256.specs.declared.State.{State}
 use Rattle.sha256.specs.Sha256.{constants, initial, bytes_of, padding, padded, block, round, rounds, compress, blocks, digest, sha256}
 use Rattle.sha256.proofs.Words.{length-bytes_of}
@@ -54,16 +54,6 @@ hashed l n {rest} ie ve h re se =
     rw (se, r, ve, ie, ← whole initial l (padding (length l)) n h)
 
 -- ---- the buffer of the last blocks
-drop-zeros : (m n : ℕ) → drop m (replicate {A = ℕ} (m + n) 0) ≡ replicate n 0
-drop-zeros m n = rw (← replicate-append-replicate {A = ℕ} m n 0) (drop_at (replicate m 0) (replicate n 0) m (length-replicate m 0))
-
--- the rest copied over zeros, and the bit 1 behind it
-pub marked : (rest : List ℕ) (r size : ℕ) {l z : List ℕ} → l ≡ rest → z ≡ replicate size 0 → length rest ≡ r → r < size → set (l ++ drop r z) r 128 ≡ rest ++ (128 ∷ replicate (size - suc r) 0)
-marked rest r size {l} {z} p q e h =
-    let n : size ≡ r + suc (size - suc r) = omega arith in
-    let d : drop r z ≡ 0 ∷ replicate (size - suc r) 0 = rw q (ap (λ (m : ℕ). drop r (replicate {A = ℕ} m 0)) n ∙ drop-zeros r (suc (size - suc r))) in
-    rw (p, d) (set_at rest 0 (replicate (size - suc r) 0) 128 r e)
-
 -- the length in bits modulo 2 ^ 64, computed without overflow
 bits : (n : ℕ) → n % 2 ^ 61 * 8 ≡ 8 * n % 2 ^ 64
 bits n =
@@ -82,12 +72,11 @@ padded-at rest x zs d len n at k j e g ae ke xe ze =
     rw (y, ← append_assoc p zs d, take_at (p ++ zs) d (64 * n) l, ze, ← ke) (append_assoc rest (128 ∷ replicate k 0) (bytes_of 8 (8 * len % 2 ^ 64)))
 
 -- the length stored over the marked buffer completes the padding
-pub padded_end : (rest : List ℕ) (len n at k size : ℕ) {x zs : List ℕ} → length rest ≡ len % 64 → n ≡ (length rest + 72) / 64 → at ≡ 64 * n - 8 → k ≡ 64 * n - at → size ≡ 128 → length x ≡ size → x ≡ rest ++ (128 ∷ replicate (size - suc (length rest)) 0) → zs ≡ bytes_of (length (take k (drop at x))) (len % 2 ^ 61 * 8) → take (64 * n) (take at x ++ (zs ++ drop k (drop at x))) ≡ rest ++ padding len
+pub padded_end : (rest : List ℕ) (len n at k size : ℕ) {x zs : List ℕ} → length rest ≡ len % 64 → n ≡ (length rest + 72) / 64 → at ≡ 64 * n - 8 → k ≡ 64 * n - at → size ≡ 128 → length x ≡ size → x ≡ rest ++ (128 ∷ replicate (size - suc (length rest)) 0) → zs ≡ bytes_of 8 (len % 2 ^ 61 * 8) → take (64 * n) (take at x ++ (zs ++ drop k (drop at x))) ≡ rest ++ padding len
 padded_end rest len n at k size {x} {zs} e g ae ke se le xe ze =
     let z = (119 - len % 64) % 64 in
     let q : size - suc (length rest) ≡ z + (size - suc (length rest) - z) = omega arith in
-    let m : length (take k (drop at x)) ≡ 8 = length-take-le k (drop at x) (rw length-drop (omega arith)) ∙ omega arith in
-    padded-at rest x zs (drop k (drop at x)) len n at z (size - suc (length rest) - z) e g ae refl (xe ∙ ap (λ (i : ℕ). rest ++ (128 ∷ replicate i 0)) q) (ze ∙ rw (m, bits len))
+    padded-at rest x zs (drop k (drop at x)) len n at z (size - suc (length rest) - z) e g ae refl (xe ∙ ap (λ (i : ℕ). rest ++ (128 ∷ replicate i 0)) q) (ze ∙ ap (bytes_of 8) (bits len))
 
 -- the blocks of the buffer's first part are those of the buffer
 pub part : (s : State) (t : List ℕ) (n : ℕ) {p : List ℕ} → 64 * n ≤ length t → take (64 * n) t ≡ p → blocks n s t ≡ blocks (length p / 64) s p

@@ -1,8 +1,10 @@
 -- Words: a rotation by two shifts, and one turn of each loop that reads, extends or writes words.
-use Rattle.std.proofs.Common.{◌≡◌, ℕ, zero, suc, ◌+◌, ◌-◌, ◌*◌, ◌/◌, ◌%◌, ◌^◌, ◌<◌, ◌≤◌, List, [], ◌∷◌, ◌++◌, length, get_or, take, drop, set, refl, ◌∙◌, append_assoc, append-nil, add-zero, add_comm, add-one, arith, length-append, length-drop, length-set, length-take-le, drop-cons, get_or-take, take-suc, get_or-set_same, take-suc-set, take_at, drop-set-lt, shr_lt}
+use Rattle.std.proofs.Common.{◌≡◌, ℕ, zero, suc, ◌+◌, ◌-◌, ◌*◌, ◌/◌, ◌%◌, ◌^◌, ◌<◌, ◌≤◌, List, [], ◌∷◌, ◌++◌, length, get_or, take, drop, set, refl, ◌∙◌, append_assoc, append-nil, add-zero, add_comm, add-one, arith, length-append, length-take-le, get_or-take, take-suc, take-suc-set, take_at, shr_lt}
 use native.Mathlib.Nat.{mul-mod_left}
 use lib.Bits.{bit_or, or_shifted_r}
 use lib.Pow.{mod-pow-add, shl-shr}
+use Rattle.std.specs.Int.{w32, w64, to_be_bytes}
+use Rattle.std.proofs.Math.Nat.{div-div-eq-div-mul}
 use Rattle.sha256.specs.Sha256.{rotate_right, word_at, words, next_word, with_next, extended, bytes_of, bytes_of_words}
 
 -- n bits of x go to the top, and m bits to the bottom
@@ -12,10 +14,10 @@ rotated n m x h =
     let k : x / 2 ^ n < 2 ^ m = shr_lt m n (rw (add_comm n m) at h) in
     rw e (or_shifted_r (x % 2 ^ n) m (x / 2 ^ n) k ∙ add_comm (x % 2 ^ n * 2 ^ m) (x / 2 ^ n))
 
--- two shifts joined are a rotation
-pub shifts : (n x : ℕ) → n ≤ 32 → x < 2 ^ 32 → bit_or (x / 2 ^ n) (x * 2 ^ (32 - n) % 2 ^ 32) ≡ rotate_right n x
+-- the rotation of std, which is two shifts joined
+pub rotation : (n x : ℕ) → n ≤ 32 → x < 2 ^ 32 → bit_or (x / 2 ^ n) (x * 2 ^ (32 - n) % 2 ^ 32) ≡ rotate_right n x
 unfolding rotate_right
-shifts n x h k =
+rotation n x h k =
     let e : n + (32 - n) ≡ 32 = omega arith in
     rw e at (rotated n (32 - n) x (rw e k))
 
@@ -42,14 +44,6 @@ extend_step w v n {x} h e p =
     let a : n + 1 + 16 ≡ suc (n + 16) = omega arith in
     rw (a, add-one, take-suc-set w (n + 16) x h, e, ← next-take n w, p)
 
--- one byte more of a number, from the last to the first
-pub store_step : (s : List ℕ) (i j x : ℕ) → i ≡ suc j → i ≤ length s → bytes_of i x ++ drop i s ≡ bytes_of j (x / 256) ++ drop j (set s j (x % 256))
-unfolding bytes_of
-store_step s i j x e h =
-    let k : j < length (set s j (x % 256)) = simp length-set (omega arith) in
-    rw (e, drop-cons (set s j (x % 256)) j 0 k, get_or-set_same s j (x % 256) 0 (omega arith), drop-set-lt (suc j) s j (x % 256) (omega arith))
-    (append_assoc (bytes_of j (x / 256)) (x % 256 ∷ []) (drop (suc j) s))
-
 pub length-bytes_of : (n x : ℕ) → length (bytes_of n x) ≡ n
 unfolding bytes_of
 length-bytes_of zero x = refl
@@ -60,12 +54,19 @@ unfolding bytes_of_words
 bytes_snoc [] x = append-nil (bytes_of 4 x)
 bytes_snoc (y ∷ l) x = rw (bytes_snoc l x, append_assoc)
 
+-- the bytes of a word and of a length, as std gives them
+pub word_bytes : (x : ℕ) → to_be_bytes w32 x ≡ bytes_of 4 x
+unfolding bytes_of
+word_bytes x = simp div-div-eq-div-mul
+
+pub length_bytes : (x : ℕ) → to_be_bytes w64 x ≡ bytes_of 8 x
+unfolding bytes_of
+length_bytes x = simp div-div-eq-div-mul
+
 -- one word more is written
-pub words_step : (ws out : List ℕ) (i k : ℕ) {ys : List ℕ} → i < length ws → 4 * i + 4 ≤ length out → k ≡ 4 → ys ≡ bytes_of (length (take k (drop (4 * i) out))) (get_or ws i 0) → take (4 * i) out ≡ bytes_of_words (take i ws) → take (4 * (i + 1)) (take (4 * i) out ++ (ys ++ drop k (drop (4 * i) out))) ≡ bytes_of_words (take (i + 1) ws)
-words_step ws out i k {ys} h b m e q =
+pub words_step : (ws out : List ℕ) (i k : ℕ) {ys : List ℕ} → i < length ws → 4 * i + 4 ≤ length out → k ≡ 4 → ys ≡ bytes_of 4 (get_or ws i 0) → take (4 * i) out ≡ bytes_of_words (take i ws) → take (4 * (i + 1)) (take (4 * i) out ++ (ys ++ drop k (drop (4 * i) out))) ≡ bytes_of_words (take (i + 1) ws)
+words_step ws out i k {ys} h b m y q =
     let p = take (4 * i) out in
-    let n : length (take k (drop (4 * i) out)) ≡ 4 = rw m (length-take-le 4 (drop (4 * i) out) (rw length-drop (omega arith))) in
-    let y : ys ≡ bytes_of 4 (get_or ws i 0) = rw n at e in
     let l : length (p ++ ys) ≡ 4 * (i + 1) = rw (length-append, y, length-bytes_of, length-take-le (4 * i) out (omega arith)) (omega arith) in
     let z = drop k (drop (4 * i) out) in
     rw (← append_assoc p ys z, take_at (p ++ ys) z (4 * (i + 1)) l, add-one, take-suc ws i 0 h, bytes_snoc, q, y)

@@ -85,19 +85,6 @@ const K: [u32; 64] = [
     0xc671_78f2,
 ];
 
-fn add(x: u32, y: u32) -> u32
-    ensures { result ≡ plus x y }
-{
-    std::num::wrapping_add_u32(x, y)
-}
-
-fn rotate_right(x: u32, n: u32) -> u32
-    requires { (0 < n) × (n < 32) }
-    ensures { result ≡ rotate_right n x }
-{
-    (x >> n) | (x << (32 - n))
-}
-
 fn choose(x: u32, y: u32, z: u32) -> u32
     ensures { result ≡ choose x y z }
 {
@@ -113,39 +100,32 @@ fn majority(x: u32, y: u32, z: u32) -> u32
 fn big_sigma0(x: u32) -> u32
     ensures { result ≡ big_sigma0 x }
 {
-    rotate_right(x, 2) ^ rotate_right(x, 13) ^ rotate_right(x, 22)
+    x.rotate_right(2) ^ x.rotate_right(13) ^ x.rotate_right(22)
 }
 
 fn big_sigma1(x: u32) -> u32
     ensures { result ≡ big_sigma1 x }
 {
-    rotate_right(x, 6) ^ rotate_right(x, 11) ^ rotate_right(x, 25)
+    x.rotate_right(6) ^ x.rotate_right(11) ^ x.rotate_right(25)
 }
 
 fn small_sigma0(x: u32) -> u32
     ensures { result ≡ small_sigma0 x }
 {
-    rotate_right(x, 7) ^ rotate_right(x, 18) ^ (x >> 3)
+    x.rotate_right(7) ^ x.rotate_right(18) ^ (x >> 3)
 }
 
 fn small_sigma1(x: u32) -> u32
     ensures { result ≡ small_sigma1 x }
 {
-    rotate_right(x, 17) ^ rotate_right(x, 19) ^ (x >> 10)
-}
-
-fn wide(x: u8) -> u32
-    ensures { (result ≡ x) × (result < 256) }
-{
-    x as u32
+    x.rotate_right(17) ^ x.rotate_right(19) ^ (x >> 10)
 }
 
 fn word_at(s: &[u8], at: usize) -> u32
     requires { at + 4 ≤ length s.now }
     ensures { result ≡ word_at s.now at }
 {
-    let high = wide(s[at]) * 256 + wide(s[at + 1]);
-    (high * 256 + wide(s[at + 2])) * 256 + wide(s[at + 3])
+    u32::from_be_bytes(s[at..at + 4].try_into().unwrap())
 }
 
 // Reads the block's sixteen words.
@@ -153,10 +133,8 @@ fn load(w: &mut [u32], block: &[u8])
     requires { (length w.old ≡ 64) × (64 ≤ length block.now) }
     ensures { take 16 w.new ≡ words 16 block.now }
 {
-    let mut i = 0;
-    while i < 16 {
+    for i in 0..16 {
         w[i] = word_at(block, 4 * i);
-        i += 1;
     }
 }
 
@@ -165,26 +143,26 @@ fn extend(w: &mut [u32])
     requires { length w.old ≡ 64 }
     ensures { w.new ≡ extended 48 (take 16 w.old) }
 {
-    let mut n = 0;
-    while n < 48 {
-        let x = add(small_sigma1(w[n + 14]), w[n + 9]);
-        let y = add(small_sigma0(w[n + 1]), w[n]);
-        w[n + 16] = add(x, y);
-        n += 1;
+    for n in 0..48 {
+        let x = small_sigma1(w[n + 14]).wrapping_add(w[n + 9]);
+        let y = small_sigma0(w[n + 1]).wrapping_add(w[n]);
+        w[n + 16] = x.wrapping_add(y);
     }
 }
 
 fn temporary1(s: State, k: u32, w: u32) -> u32
     ensures { result ≡ temporary1 s k w }
 {
-    let x = add(s.h, big_sigma1(s.e));
-    add(add(add(x, choose(s.e, s.f, s.g)), k), w)
+    s.h.wrapping_add(big_sigma1(s.e))
+        .wrapping_add(choose(s.e, s.f, s.g))
+        .wrapping_add(k)
+        .wrapping_add(w)
 }
 
 fn temporary2(s: State) -> u32
     ensures { result ≡ temporary2 s }
 {
-    add(big_sigma0(s.a), majority(s.a, s.b, s.c))
+    big_sigma0(s.a).wrapping_add(majority(s.a, s.b, s.c))
 }
 
 fn round(s: State, k: u32, w: u32) -> State
@@ -193,11 +171,11 @@ fn round(s: State, k: u32, w: u32) -> State
     let t1 = temporary1(s, k, w);
     let t2 = temporary2(s);
     State {
-        a: add(t1, t2),
+        a: t1.wrapping_add(t2),
         b: s.a,
         c: s.b,
         d: s.c,
-        e: add(s.d, t1),
+        e: s.d.wrapping_add(t1),
         f: s.e,
         g: s.f,
         h: s.g,
@@ -208,10 +186,8 @@ fn rounds(s: State, w: &[u32; 64]) -> State
     ensures { result ≡ rounds 64 w.now s }
 {
     let mut v = s;
-    let mut i = 0;
-    while i < 64 {
+    for i in 0..64 {
         v = round(v, K[i], w[i]);
-        i += 1;
     }
     v
 }
@@ -220,14 +196,14 @@ fn sum(s: State, t: State) -> State
     ensures { result ≡ sum s t }
 {
     State {
-        a: add(s.a, t.a),
-        b: add(s.b, t.b),
-        c: add(s.c, t.c),
-        d: add(s.d, t.d),
-        e: add(s.e, t.e),
-        f: add(s.f, t.f),
-        g: add(s.g, t.g),
-        h: add(s.h, t.h),
+        a: s.a.wrapping_add(t.a),
+        b: s.b.wrapping_add(t.b),
+        c: s.c.wrapping_add(t.c),
+        d: s.d.wrapping_add(t.d),
+        e: s.e.wrapping_add(t.e),
+        f: s.f.wrapping_add(t.f),
+        g: s.g.wrapping_add(t.g),
+        h: s.h.wrapping_add(t.h),
     }
 }
 
@@ -247,39 +223,18 @@ fn blocks(s: State, bytes: &[u8], n: usize) -> State
     ensures { result ≡ blocks n s bytes.now }
 {
     let mut v = s;
-    let mut i = 0;
-    while i < n {
-        let at = 64 * i;
-        let end = at + 64;
-        v = compress(v, &bytes[at..end]);
-        i += 1;
+    for i in 0..n {
+        v = compress(v, &bytes[64 * i..64 * i + 64]);
     }
     v
-}
-
-// Fills the slice with the low bytes of x, the most significant first.
-fn store(s: &mut [u8], x: u64)
-    ensures { s.new ≡ bytes_of (length s.old) x }
-{
-    let mut i = s.len();
-    let mut rest = x;
-    while 0 < i {
-        i -= 1;
-        s[i] = (rest % 256) as u8;
-        rest = rest / 256;
-    }
 }
 
 fn store_words(words: &[u32], out: &mut [u8])
     requires { length out.old ≡ 4 * length words.now }
     ensures { out.new ≡ bytes_of_words words.now }
 {
-    let mut i = 0;
-    while i < words.len() {
-        let at = 4 * i;
-        let end = at + 4;
-        store(&mut out[at..end], words[i] as u64);
-        i += 1;
+    for (i, word) in words.iter().enumerate() {
+        out[4 * i..4 * i + 4].copy_from_slice(&word.to_be_bytes());
     }
 }
 
@@ -289,8 +244,8 @@ fn mark(tail: &mut [u8], rest: &[u8])
     ensures { tail.new ≡ rest.now ++ (128 ∷ replicate (length tail.old - suc (length rest.now)) 0) }
 {
     let r = rest.len();
-    fields::clear(tail);
-    fields::copy_bytes(rest, &mut tail[..r]);
+    tail.fill(0);
+    tail[..r].copy_from_slice(rest);
     tail[r] = 128;
 }
 
@@ -305,7 +260,7 @@ fn pad(tail: &mut [u8], rest: &[u8], len: usize) -> usize
     let at = end - 8;
     // The length in bits, modulo 2^64.
     let bits = len % 0x2000_0000_0000_0000 * 8;
-    store(&mut tail[at..end], bits as u64);
+    tail[at..end].copy_from_slice(&(bits as u64).to_be_bytes());
     n
 }
 

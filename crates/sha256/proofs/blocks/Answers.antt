@@ -6,16 +6,16 @@ use Rattle.sha256.proofs.blocks.Goals as goal
 
 pub loop-i-init : goal.loop-i-init
 unfolding blocks
-loop-i-init c = (omega arith, refl)
+loop-i-init c = refl
 
 pub loop-i-preserved : goal.loop-i-preserved
 loop-i-preserved c =
     let l = c.loop-i in
     let x = c.args in
-    (omega arith, blocks_step x.bytes.now x.s l.i (64 * l.i + 64 - 64 * l.i) (omega arith) c.compress-v.ensures l.invariant.1)
+    blocks_step x.bytes.now x.s l.i (64 * l.i + 64 - 64 * l.i) (omega arith) c.compress-v.ensures l.invariant
 
 pub returns : goal.returns
 returns c =
     let l = c.loop-i in
     let e : l.i ≡ c.args.n = omega arith in
-    rw e at l.invariant.1
+    rw e at l.invariant

@@ -4,4 +4,4 @@ use Rattle.sha256.proofs.round.Goals as goal
 
 pub returns : goal.returns
 unfolding round
-returns c = rw (c.add-2.ensures, c.add.ensures, c.temporary2-t2.ensures, c.temporary1-t1.ensures)
+returns c = rw (c.temporary2-t2.ensures, c.temporary1-t1.ensures)

@@ -6,16 +6,16 @@ use Rattle.sha256.proofs.rounds.Goals as goal
 
 pub loop-i-init : goal.loop-i-init
 unfolding rounds
-loop-i-init c = (omega arith, refl)
+loop-i-init c = refl
 
 pub loop-i-preserved : goal.loop-i-preserved
 unfolding constants
 loop-i-preserved c =
     let l = c.loop-i in
-    (omega arith, rounds-step c.args.w.now c.args.s l.i c.round-v.ensures l.invariant.1)
+    rounds-step c.args.w.now c.args.s l.i c.round-v.ensures l.invariant
 
 pub returns : goal.returns
 returns c =
     let l = c.loop-i in
     let e : l.i ≡ 64 = omega arith in
-    rw e at l.invariant.1
+    rw e at l.invariant

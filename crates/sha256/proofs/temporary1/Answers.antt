@@ -4,4 +4,4 @@ use Rattle.sha256.proofs.temporary1.Goals as goal
 
 pub returns : goal.returns
 unfolding temporary1
-returns c = rw (c.add-3.ensures, c.add-2.ensures, c.add.ensures, c.choose.ensures, c.add-x.ensures, c.big_sigma1.ensures)
+returns c = rw (c.choose.ensures, c.big_sigma1.ensures)

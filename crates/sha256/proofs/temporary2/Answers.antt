@@ -4,4 +4,4 @@ use Rattle.sha256.proofs.temporary2.Goals as goal
 
 pub returns : goal.returns
 unfolding temporary2
-returns c = rw (c.add.ensures, c.majority.ensures, c.big_sigma0.ensures)
+returns c = rw (c.majority.ensures, c.big_sigma0.ensures)
