@@ -1,44 +1,22 @@
 // Sums, differences, negation, order, sign and bytes of amounts at both ends of their 128 bits.
 #![tactic(auto)]
 
-use amount::{Amount, Sum};
+use amount::Amount;
+use std::cmp::Ordering;
 use std::io;
 
-fn most() -> Amount {
-    Amount {
-        hi: 9223372036854775807,
-        lo: 18446744073709551615,
-    }
-}
+const MOST: Amount = Amount(i128::MAX);
 
-fn least() -> Amount {
-    Amount {
-        hi: -9223372036854775808,
-        lo: 0,
-    }
-}
+const LEAST: Amount = Amount(i128::MIN);
 
-fn above_least() -> Amount {
-    Amount {
-        hi: -9223372036854775808,
-        lo: 1,
-    }
-}
+const ABOVE_LEAST: Amount = Amount(i128::MIN + 1);
 
 // One more carries into the greatest high half.
-fn before_greatest_high() -> Amount {
-    Amount {
-        hi: 9223372036854775806,
-        lo: 18446744073709551615,
-    }
-}
+const BEFORE_GREATEST_HIGH: Amount = Amount(0x7fff_ffff_ffff_fffe_ffff_ffff_ffff_ffff);
 
-fn minus_one() -> Amount {
-    Amount {
-        hi: -1,
-        lo: 18446744073709551615,
-    }
-}
+const MINUS_ONE: Amount = Amount(-1);
+
+const ONE: Amount = Amount(1);
 
 fn truth(rt: &impl Print, b: bool) -> io::Result<()> {
     if b {
@@ -57,74 +35,71 @@ fn show(rt: &impl Print, a: Amount) -> io::Result<()> {
     println!(rt)
 }
 
-fn show_sum(rt: &impl Print, s: Sum) -> io::Result<()> {
-    match s {
-        Sum::Value(v) => show(rt, v),
-        Sum::Overflow => overflow(rt),
+fn show_sum(rt: &impl Print, sum: Option<Amount>) -> io::Result<()> {
+    match sum {
+        Some(v) => show(rt, v),
+        None => println!(rt; "overflow"),
     }
 }
 
-fn overflow(rt: &impl Print) -> io::Result<()> {
-    println!(rt; "overflow")
-}
-
 fn sums(rt: &impl Print) -> io::Result<()> {
-    show_sum(rt, amount::checked_add(most(), amount::zero()))?;
-    show_sum(rt, amount::checked_add(most(), amount::from_u64(1)))?;
-    show_sum(rt, amount::checked_add(least(), minus_one()))?;
-    show_sum(rt, amount::checked_add(least(), most()))?;
-    show_sum(rt, amount::checked_add(minus_one(), amount::from_u64(1)))?;
-    show_sum(
-        rt,
-        amount::checked_add(amount::from_u64(18446744073709551615), amount::from_u64(1)),
-    )?;
-    show_sum(rt, amount::checked_add(above_least(), minus_one()))?;
-    show_sum(
-        rt,
-        amount::checked_add(before_greatest_high(), amount::from_u64(1)),
-    )
+    show_sum(rt, MOST.checked_add(Amount::ZERO))?;
+    show_sum(rt, MOST.checked_add(ONE))?;
+    show_sum(rt, LEAST.checked_add(MINUS_ONE))?;
+    show_sum(rt, LEAST.checked_add(MOST))?;
+    show_sum(rt, MINUS_ONE.checked_add(ONE))?;
+    show_sum(rt, Amount::from(18446744073709551615).checked_add(ONE))?;
+    show_sum(rt, ABOVE_LEAST.checked_add(MINUS_ONE))?;
+    show_sum(rt, BEFORE_GREATEST_HIGH.checked_add(ONE))
 }
 
 fn differences(rt: &impl Print) -> io::Result<()> {
-    show_sum(rt, amount::checked_sub(least(), amount::from_u64(1)))?;
-    show_sum(rt, amount::checked_sub(most(), minus_one()))?;
-    show_sum(rt, amount::checked_sub(amount::zero(), amount::from_u64(1)))?;
-    show_sum(rt, amount::checked_sub(most(), most()))?;
-    show_sum(rt, amount::checked_sub(minus_one(), least()))?;
-    show_sum(rt, amount::checked_sub(amount::zero(), least()))
+    show_sum(rt, LEAST.checked_sub(ONE))?;
+    show_sum(rt, MOST.checked_sub(MINUS_ONE))?;
+    show_sum(rt, Amount::ZERO.checked_sub(ONE))?;
+    show_sum(rt, MOST.checked_sub(MOST))?;
+    show_sum(rt, MINUS_ONE.checked_sub(LEAST))?;
+    show_sum(rt, Amount::ZERO.checked_sub(LEAST))
 }
 
 fn negations(rt: &impl Print) -> io::Result<()> {
-    show_sum(rt, amount::checked_neg(least()))?;
-    show_sum(rt, amount::checked_neg(most()))?;
-    show_sum(rt, amount::checked_neg(minus_one()))?;
-    show_sum(rt, amount::checked_neg(amount::zero()))?;
-    show_sum(rt, amount::checked_neg(above_least()))?;
-    show_sum(rt, amount::checked_neg(Amount { hi: 1, lo: 0 }))
+    show_sum(rt, LEAST.checked_neg())?;
+    show_sum(rt, MOST.checked_neg())?;
+    show_sum(rt, MINUS_ONE.checked_neg())?;
+    show_sum(rt, Amount::ZERO.checked_neg())?;
+    show_sum(rt, ABOVE_LEAST.checked_neg())?;
+    show_sum(rt, Amount(1 << 64).checked_neg())
 }
 
 fn orders(rt: &impl Print) -> io::Result<()> {
-    truth(rt, amount::less(least(), most()))?;
-    truth(rt, amount::less(most(), least()))?;
-    truth(rt, amount::less(minus_one(), amount::zero()))?;
-    truth(rt, amount::less(amount::zero(), minus_one()))?;
-    truth(rt, amount::less(most(), most()))?;
-    truth(rt, amount::less(amount::zero(), amount::from_u64(1)))
+    truth(rt, amount::less(LEAST, MOST))?;
+    truth(rt, amount::less(MOST, LEAST))?;
+    truth(rt, amount::less(MINUS_ONE, Amount::ZERO))?;
+    truth(rt, amount::less(Amount::ZERO, MINUS_ONE))?;
+    truth(rt, amount::less(MOST, MOST))?;
+    truth(rt, amount::less(Amount::ZERO, ONE))
+}
+
+// 0 below zero, 1 zero, 2 above.
+fn sign(a: Amount) -> u8 {
+    match a.cmp(&Amount::ZERO) {
+        Ordering::Less => 0,
+        Ordering::Equal => 1,
+        Ordering::Greater => 2,
+    }
 }
 
 fn signs(rt: &impl Print) -> io::Result<()> {
-    print!(rt; "{}", amount::sign(least()) as u64)?;
-    print!(rt; "{}", amount::sign(minus_one()) as u64)?;
-    print!(rt; "{}", amount::sign(amount::zero()) as u64)?;
-    print!(rt; "{}", amount::sign(amount::from_u64(1)) as u64)?;
-    print!(rt; "{}", amount::sign(most()) as u64)?;
+    for a in [LEAST, MINUS_ONE, Amount::ZERO, ONE, MOST] {
+        print!(rt; "{}", sign(a))?;
+    }
     println!(rt)
 }
 
 // Bytes that are read are the bytes that were written.
 fn bytes(rt: &impl Print) -> io::Result<()> {
     let mut s = [255u8; 32];
-    amount::write_amount(&mut s, 8, least());
+    amount::write_amount(&mut s, 8, LEAST);
     show(rt, amount::read_amount(&s, 8))?;
     show(rt, amount::read_amount(&s, 0))?;
     show(rt, amount::read_amount(&s, 16))
