@@ -1,6 +1,6 @@
 -- A number in decimal digits (ASCII, the most significant first), and the line that is printed for an answer.
 use Rattle.std.specs.Prelude.{◌≡◌, refl, List, [], ◌∷◌, ◌++◌, ℕ, zero, suc, ◌+◌, ◌/◌, ◌%◌, ◌^◌, ◌<◌, ◌≤◌, ℤ, pos, negsuc}
-use Rattle.std.proofs.Common.{ap, arith}
+use Rattle.std.proofs.Common.{ap, append_assoc, append-nil, arith}
 
 -- the digits of q, and d after them, by repeated division; k is how many divisions are left, and q of them are enough
 unfoldable pub digits_in : (k q d : ℕ) → List ℕ
@@ -64,6 +64,11 @@ decimal_digit n h =
 pub decimal_more : (n : ℕ) → 10 ≤ n → decimal n ≡ decimal (n / 10) ++ ((48 + n % 10) ∷ [])
 unfolding decimal
 decimal_more n h = digits_last n (n / 10) (n % 10) (omega arith) (omega arith)
+
+-- what stands after an answer in words is put after it
+pub answer_words-end : (number : ℕ) (value : ℤ) (events : ℕ) (t : List ℕ) → answer_words number value events [] ++ t ≡ answer_words number value events t
+unfolding answer_words answer_text value_text events_text
+answer_words-end number value events t = simp (append_assoc, append-nil) refl
 
 -- worked examples: 0, 2 ^ 127, -1
 none : decimal 0 ≡ 48 ∷ []

@@ -1,9 +1,12 @@
-// Reading and writing of whole buffers: a read that fails ends them as the end of the input does, and a write that fails is told by a bool.
+// Reading of whole buffers and printing of lines: a read that fails ends them as the end of the input does.
 #![tactic(auto)]
 
-ghost use Rattle.std.specs.Prelude.{◌≡◌, ◌≤◌, true, length, take};
+ghost use Rattle.std.specs.Prelude.{◌≤◌, length, take, IfSome, OnOk};
+ghost use Rattle.std.specs.Fmt.{with_newline};
 ghost use Rattle.std.specs.Io.KnownBytes.{Consumes, Appends};
 
+use std::fmt::{Display, InlineText};
+use std::io;
 use std::io::{Read, Write};
 
 // Reads until `buf` is full, the input ends or a read fails, and returns how many bytes it put at the start of `buf`.
@@ -25,9 +28,14 @@ pub fn read_full<R: Read>(reader: &mut R, buf: &mut [u8]) -> usize
     done
 }
 
-// Writes all of `bytes`, or returns false, when some of them may have been written.
-pub fn write_all<W: Write>(writer: &mut W, bytes: &[u8]) -> bool
-    ensures { result ≡ true → Appends (W.contents writer.old) (W.contents writer.new) bytes.now }
+// Writes the text of `value` and a line feed, at once where it has at most N bytes.
+pub fn print_line<const N: usize, W: Write, D: Display>(writer: &mut W, value: &D) -> io::Result<()>
+    requires { N ≤ 4096 }
+    ensures { OnOk result (IfSome (with_newline (D.output value.now)) (Appends (W.contents writer.old) (W.contents writer.new))) }
 {
-    writer.write_all(bytes).is_ok()
+    let mut line = InlineText::<N>::new();
+    match std::fmt::Write::writeln(&mut line, value) {
+        Ok(()) => writer.write_all(line.as_str().as_bytes()),
+        Err(_) => writeln!(writer, "{value}"),
+    }
 }
