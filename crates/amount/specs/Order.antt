@@ -48,3 +48,9 @@ module _ {t : Bool} (a b : Amount) (f : FitsSigned w128 a.0) (g : FitsSigned w12
 
   pub lt_false : t ≡ is_lt (int_cmp a.0 b.0) → t ≡ false → biased b ≤ biased a
   lt_false e h = ltb-false (biased a) (biased b) (sym (e ∙ less_is a b f g) ∙ h)
+
+  pub gt_true : t ≡ is_gt (int_cmp a.0 b.0) → t ≡ true → biased b < biased a
+  gt_true e h = ltb-true (biased b) (biased a) (sym (e ∙ greater_is a b f g) ∙ h)
+
+  pub gt_false : t ≡ is_gt (int_cmp a.0 b.0) → t ≡ false → biased a ≤ biased b
+  gt_false e h = ltb-false (biased b) (biased a) (sym (e ∙ greater_is a b f g) ∙ h)

@@ -1,9 +1,10 @@
 -- What a check that gave 0 says: its rules all fail.
-use Rattle.std.specs.Prelude.{◌≡◌, List, ℕ}
+use Rattle.std.specs.Prelude.{◌≡◌, List, [], ◌∷◌, ℕ, Bool, true, false}
 use Rattle.std.proofs.Math.Path.{refl, sym}
 use Rattle.std.proofs.Common.{◌∙◌}
 use Rattle.image.specs.Layout.{bit, flags, owner, initialised}
-use Rattle.fields.specs.Rules.{AllFail, free, unlinked}
+use Rattle.fields.specs.Rules.{Guard, test, when, verdict, pick, AllFail, free, unlinked}
+use Rattle.amount.specs.Biased.{num}
 use Rattle.checks.specs.Checks.{flag, initialised_bit, initialised_rules, initialised_number, owner_rules, not_owner_number, owner_number, insider_rules, not_insider_number, shared_number, amount_rules, amount_number, deposit_amount_rules, deposit_amount_number, limit_rules, limit_number}
 
 pub flag_is : (k : ℕ) (l : List ℕ) → flag k l ≡ bit (flags l) k
@@ -50,3 +51,12 @@ shared_free l caller signers e z =
     let u = unlinked _ (sym e ∙ z) in
     let (i, _) = not-insider_free l caller refl u.0 in
     sym (flag_is initialised_bit l) ∙ i
+
+-- a list of one rule of code 1
+pub one_rule : (g : Guard) → num (test g) ≡ verdict (when g 1 ∷ [])
+unfolding verdict
+one_rule g = go (test g)
+  where
+    go : (t : Bool) → num t ≡ pick t 1 0
+    go true = refl
+    go false = refl

@@ -1,235 +1,222 @@
-// Checks that several operations make: each gives the number of the first rule that holds, or 0.
+// Checks that several operations make: each refuses by the first rule that holds, or lets the operation go on.
 #![tactic(auto)]
 
 ghost use Rattle.std.specs.Prelude.{◌≡◌, ◌+◌, ◌<◌, ◌≤◌, length};
-ghost use Rattle.amount.specs.Biased.{bias, biased};
+ghost use Rattle.refusal.specs.Numbers.{code};
+ghost use Rattle.amount.specs.Biased.{bias, biased, num};
 ghost use Rattle.image.specs.Layout.{image_length};
+ghost use Rattle.image.specs.Flags.{flag_bit};
 ghost use Rattle.checks.specs.Checks.{max_vault_deposit, flag, in_set, insider, paused_number, signed_number, initialised_number, owner_role_number, not_owner_number, owner_number, insider_role_number, not_insider_number, shared_number, amount_number, max_deposit_number, deposit_amount_number, approved_number, limit_number, cap_number, funds_number};
 
 use amount::Amount;
+use image::Flag;
+use refusal::Refusal;
 
-// Bit k of the flags.
-pub fn flag_of(img: &[u8], k: u16) -> u16
-    requires { (length img.now ≡ image_length) × (k < 16) }
-    ensures { result ≡ flag k img.now }
+pub fn has_flag(img: &[u8], wanted: Flag) -> bool
+    requires { length img.now ≡ image_length }
+    ensures { num result ≡ flag (flag_bit wanted) img.now }
 {
-    (fields::get16(img, 0) >> k) % 2
+    (fields::get16(img, 0) >> wanted.bit()) % 2 == 1
 }
 
-// Bit a of a set of addresses.
-pub fn has(set: u64, a: u64) -> u64
+// Whether a set of addresses holds one.
+pub fn contains(set: u64, a: u8) -> bool
     requires { a < 64 }
-    ensures { result ≡ in_set set a }
+    ensures { num result ≡ in_set set a }
 {
-    (set >> a) % 2
+    (set >> a) % 2 == 1
 }
 
 // 8.
-pub fn paused_check(img: &[u8]) -> u8
+pub fn paused_check(img: &[u8]) -> Result<(), Refusal>
     requires { length img.now ≡ image_length }
-    ensures { result ≡ paused_number img.now }
+    ensures { code result ≡ paused_number img.now }
 {
-    if flag_of(img, 1) != 0 {
-        return 8;
+    if has_flag(img, Flag::Paused) {
+        return Err(Refusal::ContractPaused);
     }
-    0
+    Ok(())
 }
 
 // 22.
-pub fn signed_check(signers: u64, a: u8) -> u8
+pub fn signed_check(signers: u64, a: u8) -> Result<(), Refusal>
     requires { a < 64 }
-    ensures { result ≡ signed_number signers a }
+    ensures { code result ≡ signed_number signers a }
 {
-    if has(signers, a as u64) != 1 {
-        return 22;
+    if !contains(signers, a) {
+        return Err(Refusal::SignatureMissing);
     }
-    0
+    Ok(())
 }
 
 // 1.
-pub fn initialised_check(img: &[u8]) -> u8
+pub fn initialised_check(img: &[u8]) -> Result<(), Refusal>
     requires { length img.now ≡ image_length }
-    ensures { result ≡ initialised_number img.now }
+    ensures { code result ≡ initialised_number img.now }
 {
-    if flag_of(img, 0) != 1 {
-        return 1;
+    if !has_flag(img, Flag::Initialised) {
+        return Err(Refusal::NotInitialized);
     }
-    0
+    Ok(())
 }
 
 // 3.
-pub fn owner_role_check(img: &[u8], caller: u8) -> u8
+pub fn owner_role_check(img: &[u8], caller: u8) -> Result<(), Refusal>
     requires { length img.now ≡ image_length }
-    ensures { result ≡ owner_role_number img.now caller }
+    ensures { code result ≡ owner_role_number img.now caller }
 {
     if fields::get8(img, 2) != caller {
-        return 3;
+        return Err(Refusal::NotAuthorized);
     }
-    0
+    Ok(())
 }
 
 // 1, 3.
-fn owner_check(img: &[u8], caller: u8) -> u8
+fn owner_check(img: &[u8], caller: u8) -> Result<(), Refusal>
     requires { length img.now ≡ image_length }
-    ensures { result ≡ not_owner_number img.now caller }
+    ensures { code result ≡ not_owner_number img.now caller }
 {
-    if flag_of(img, 0) != 1 {
-        return 1;
+    if !has_flag(img, Flag::Initialised) {
+        return Err(Refusal::NotInitialized);
     }
     owner_role_check(img, caller)
 }
 
 // 1, 3, 22.
-pub fn owner_gate(img: &[u8], caller: u8, signers: u64) -> u8
+pub fn owner_gate(img: &[u8], caller: u8, signers: u64) -> Result<(), Refusal>
     requires { (length img.now ≡ image_length) × (caller < 64) }
-    ensures { result ≡ owner_number img.now caller signers }
+    ensures { code result ≡ owner_number img.now caller signers }
 {
-    let k = owner_check(img, caller);
-    if k != 0 {
-        return k;
-    }
+    owner_check(img, caller)?;
     signed_check(signers, caller)
 }
 
-// 1 where the address is the owner's or the operator's, and 0.
-pub fn is_insider(img: &[u8], a: u8) -> u8
+// Whether the address is the owner's or the operator's.
+pub fn is_insider(img: &[u8], a: u8) -> bool
     requires { length img.now ≡ image_length }
-    ensures { result ≡ insider img.now a }
+    ensures { num result ≡ insider img.now a }
 {
     if fields::get8(img, 2) == a {
-        return 1;
+        return true;
     }
-    if flag_of(img, 2) != 1 {
-        return 0;
+    if !has_flag(img, Flag::Operator) {
+        return false;
     }
-    if fields::get8(img, 4) == a {
-        return 1;
-    }
-    0
+    fields::get8(img, 4) == a
 }
 
 // 3, the operator let in too.
-pub fn insider_role_check(img: &[u8], caller: u8) -> u8
+pub fn insider_role_check(img: &[u8], caller: u8) -> Result<(), Refusal>
     requires { length img.now ≡ image_length }
-    ensures { result ≡ insider_role_number img.now caller }
+    ensures { code result ≡ insider_role_number img.now caller }
 {
-    if is_insider(img, caller) != 1 {
-        return 3;
+    if !is_insider(img, caller) {
+        return Err(Refusal::NotAuthorized);
     }
-    0
+    Ok(())
 }
 
 // 1, 3, the operator let in too.
-fn insider_check(img: &[u8], caller: u8) -> u8
+fn insider_check(img: &[u8], caller: u8) -> Result<(), Refusal>
     requires { length img.now ≡ image_length }
-    ensures { result ≡ not_insider_number img.now caller }
+    ensures { code result ≡ not_insider_number img.now caller }
 {
-    if flag_of(img, 0) != 1 {
-        return 1;
+    if !has_flag(img, Flag::Initialised) {
+        return Err(Refusal::NotInitialized);
     }
     insider_role_check(img, caller)
 }
 
 // 1, 3, 22, the operator let in too.
-pub fn shared_gate(img: &[u8], caller: u8, signers: u64) -> u8
+pub fn shared_gate(img: &[u8], caller: u8, signers: u64) -> Result<(), Refusal>
     requires { (length img.now ≡ image_length) × (caller < 64) }
-    ensures { result ≡ shared_number img.now caller signers }
+    ensures { code result ≡ shared_number img.now caller signers }
 {
-    let k = insider_check(img, caller);
-    if k != 0 {
-        return k;
-    }
+    insider_check(img, caller)?;
     signed_check(signers, caller)
 }
 
 // 4.
-pub fn amount_check(n: Amount) -> u8
-    ensures { result ≡ amount_number (biased n) }
+pub fn amount_check(n: Amount) -> Result<(), Refusal>
+    ensures { code result ≡ amount_number (biased n) }
 {
-    if amount::below(amount::zero(), n) == 0 {
-        return 4;
+    if !n.is_positive() {
+        return Err(Refusal::InvalidAmount);
     }
-    0
+    Ok(())
 }
 
-// 10 ^ 30, the most that one deposit may bring.
-fn max_vault_deposit() -> Amount
-    ensures { biased result ≡ bias + max_vault_deposit }
-{
-    Amount {
-        hi: 54210108624,
-        lo: 5076944270305263616,
-    }
-}
+// The most that one deposit may bring.
+const MAX_VAULT_DEPOSIT: Amount = Amount(1_000_000_000_000_000_000_000_000_000_000);
 
 // 5.
-pub fn max_deposit_check(n: Amount) -> u8
-    ensures { result ≡ max_deposit_number (biased n) }
+pub fn max_deposit_check(n: Amount) -> Result<(), Refusal>
+    ensures { code result ≡ max_deposit_number (biased n) }
 {
-    if amount::below(max_vault_deposit(), n) != 0 {
-        return 5;
+    if n > MAX_VAULT_DEPOSIT {
+        return Err(Refusal::DepositExceedsMax);
     }
-    0
+    Ok(())
 }
 
 // 4, 5.
-pub fn deposit_amount_check(n: Amount) -> u8
-    ensures { result ≡ deposit_amount_number (biased n) }
+pub fn deposit_amount_check(n: Amount) -> Result<(), Refusal>
+    ensures { code result ≡ deposit_amount_number (biased n) }
 {
-    if amount::below(amount::zero(), n) == 0 {
-        return 4;
+    if !n.is_positive() {
+        return Err(Refusal::InvalidAmount);
     }
     max_deposit_check(n)
 }
 
 // 10.
-pub fn approved_check(img: &[u8], t: u8) -> u8
+pub fn approved_check(img: &[u8], t: u8) -> Result<(), Refusal>
     requires { (length img.now ≡ image_length) × (t < 64) }
-    ensures { result ≡ approved_number img.now t }
+    ensures { code result ≡ approved_number img.now t }
 {
-    if has(fields::get64(img, 72), t as u64) != 1 {
-        return 10;
+    if !contains(fields::get64(img, 72), t) {
+        return Err(Refusal::TokenNotApproved);
     }
-    0
+    Ok(())
 }
 
 // 7, 6 above a limit, of a holding and an amount that is not negative.
-pub fn limit_check(holding: Amount, n: Amount, limit: Amount) -> u8
+pub fn limit_check(holding: Amount, n: Amount, limit: Amount) -> Result<(), Refusal>
     requires { bias ≤ biased n }
-    ensures { result ≡ limit_number (biased holding) (biased n) (biased limit) }
+    ensures { code result ≡ limit_number (biased holding) (biased n) (biased limit) }
 {
-    if amount::passes(holding, n) != 0 {
-        return 7;
+    let Some(sum) = holding.checked_add(n) else {
+        return Err(Refusal::ArithmeticOverflow);
+    };
+    if sum > limit {
+        return Err(Refusal::LimitExceeded);
     }
-    if amount::below(limit, amount::plus(holding, n)) != 0 {
-        return 6;
-    }
-    0
+    Ok(())
 }
 
 // 6: not the owner, and no operator limit or above it.
-pub fn cap_check(img: &[u8], caller: u8, sum: Amount) -> u8
+pub fn cap_check(img: &[u8], caller: u8, sum: Amount) -> Result<(), Refusal>
     requires { length img.now ≡ image_length }
-    ensures { result ≡ cap_number img.now caller (biased sum) }
+    ensures { code result ≡ cap_number img.now caller (biased sum) }
 {
     if fields::get8(img, 2) == caller {
-        return 0;
+        return Ok(());
     }
-    if flag_of(img, 3) != 1 {
-        return 6;
+    if !has_flag(img, Flag::OperatorLimit) {
+        return Err(Refusal::LimitExceeded);
     }
-    if amount::below(amount::read_amount(img, 24), sum) != 0 {
-        return 6;
+    if sum > amount::read_amount(img, 24) {
+        return Err(Refusal::LimitExceeded);
     }
-    0
+    Ok(())
 }
 
 // 6: above a holding.
-pub fn funds_check(holding: Amount, sum: Amount) -> u8
-    ensures { result ≡ funds_number (biased holding) (biased sum) }
+pub fn funds_check(holding: Amount, sum: Amount) -> Result<(), Refusal>
+    ensures { code result ≡ funds_number (biased holding) (biased sum) }
 {
-    if amount::below(holding, sum) != 0 {
-        return 6;
+    if sum > holding {
+        return Err(Refusal::LimitExceeded);
     }
-    0
+    Ok(())
 }

@@ -1,12 +1,13 @@
 -- `checks::owner_gate` meets its contract.
-use Rattle.checks.specs.Checks.{owner_number}
-use Rattle.fields.specs.Rules.{link_at_lem, ends_at}
 use native.Mathlib.Omega.{arith}
+use Rattle.fields.specs.Rules.{ends_at}
+use Rattle.refusal.specs.Laws.{passed_on}
+use Rattle.checks.specs.Checks.{owner_number}
 use Rattle.checks.proofs.owner_gate.Goals as goal
 
-pub returns-then-k-ne0 : goal.returns-then-k-ne0
+pub returns-in_err-owner_check : goal.returns-in_err-owner_check
 unfolding owner_number
-returns-then-k-ne0 c = link_at_lem _ 0 _ (omega arith) c.owner_check-k.ensures
+returns-in_err-owner_check c = passed_on _ 0 _ _ tt c.from_residual.ensures c.in_err-owner_check.ensures
 
 pub returns : goal.returns
 unfolding owner_number

@@ -1,12 +1,13 @@
 -- `checks::shared_gate` meets its contract.
-use Rattle.checks.specs.Checks.{shared_number}
-use Rattle.fields.specs.Rules.{link_at_lem, ends_at}
 use native.Mathlib.Omega.{arith}
+use Rattle.fields.specs.Rules.{ends_at}
+use Rattle.refusal.specs.Laws.{passed_on}
+use Rattle.checks.specs.Checks.{shared_number}
 use Rattle.checks.proofs.shared_gate.Goals as goal
 
-pub returns-then-k-ne0 : goal.returns-then-k-ne0
+pub returns-in_err-insider_check : goal.returns-in_err-insider_check
 unfolding shared_number
-returns-then-k-ne0 c = link_at_lem _ 0 _ (omega arith) c.insider_check-k.ensures
+returns-in_err-insider_check c = passed_on _ 0 _ _ tt c.from_residual.ensures c.in_err-insider_check.ensures
 
 pub returns : goal.returns
 unfolding shared_number
