@@ -1,11 +1,14 @@
 -- The comparisons of two amounts are those of their numbers.
-use Rattle.std.specs.Prelude.{◌≡◌, ℕ, ◌<◌, ◌≤◌, Bool, true, false, cond, pos, FitsSigned, int_lt, nat_lt, refl}
-use Rattle.std.proofs.Common.{◌∙◌, sym, add-zero, Less, Equal, Greater, arith, lt-ltb, le-ltb, ltb-true, ltb-false}
+use Rattle.std.specs.Prelude.{not, ◌≡◌, ℕ, ◌<◌, ◌≤◌, Bool, true, false, cond, pos, FitsSigned, int_lt, nat_lt, refl}
+use Rattle.std.proofs.Common.{ap, ◌∙◌, sym, add-zero, Less, Equal, Greater, arith, lt-ltb, le-ltb, ltb-true, ltb-false}
 use Rattle.std.specs.Int.{w128}
-use Rattle.std.specs.Ordering.{is_lt, is_gt, int_cmp}
+use Rattle.std.specs.Ordering.{is_lt, is_gt, int_cmp, int_eq}
 use Rattle.amount.specs.declared.Amount.{Amount}
-use Rattle.amount.specs.Biased.{bias, biased}
-use Rattle.amount.specs.Laws.{by_lt, biased_from}
+use Rattle.amount.specs.Biased.{bias, biased_integer, biased}
+use Rattle.std.proofs.lemmas.Bool.{not-false}
+use Rattle.std.proofs.lemmas.Bool.Decides.{Decides-int_eq}
+use Rattle.std.proofs.Math.IntN.{sub_ℕ}
+use Rattle.amount.specs.Laws.{by_lt, integer-biased, biased_from}
 use Rattle.amount.specs.Value.{value, less_value}
 
 -- the number of zero
@@ -54,3 +57,16 @@ module _ {t : Bool} (a b : Amount) (f : FitsSigned w128 a.0) (g : FitsSigned w12
 
   pub gt_false : t ≡ is_gt (int_cmp a.0 b.0) → t ≡ false → biased a ≤ biased b
   gt_false e h = ltb-false (biased b) (biased a) (sym (e ∙ greater_is a b f g) ∙ h)
+
+  -- `!=`
+  pub ne_false : t ≡ not (int_eq a.0 b.0) → t ≡ false → biased a ≡ biased b
+  unfolding biased
+  ne_false e p = ap biased_integer ((Decides-int_eq a.0 b.0).0 (not-false (int_eq a.0 b.0) (sym e ∙ p)))
+
+  pub ne_true : t ≡ not (int_eq a.0 b.0) → t ≡ true → biased a ≡ biased b → ⊥
+  ne_true e p q =
+      let same : int_eq a.0 b.0 ≡ true = (Decides-int_eq a.0 b.0).1 (integer-biased a f ∙ ap (λ (n : ℕ). sub_ℕ n bias) q ∙ sym (integer-biased b g)) in
+      let z : ◌≡◌ {A = Bool} (not (int_eq a.0 b.0)) true = sym e ∙ p in
+      let w : ◌≡◌ {A = Bool} (not true) true = rw same at z in
+      let n : ◌≡◌ {A = ℕ} 0 1 = cc in
+      omega arith

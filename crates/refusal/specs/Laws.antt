@@ -56,7 +56,11 @@ some_number InvalidTollBounds h = absurd (omega arith)
 pub refused_at : (xs : List ℕ) (k : ℕ) (e : Refusal) → BeforeLink k xs → number_of e ≡ link_at k xs → number_of e ≡ chain xs
 refused_at xs k e b h = link_at_lem xs k (number_of e) (links xs k b (λ z. some_number e (h ∙ z))) h
 
--- what `?` gives back where check k refuses: its refusal
+-- what `?` gives back where a check refused with e: its number
+pub code_passed : {T : Type 0} (e : Refusal) (r : Result T Refusal) → IsErr r × IsErrAnd r (λ y. y ≡ e) → code r ≡ number_of e
+code_passed e (Ok x) (f, g) = cc
+code_passed e (Err y) (f, g) = ap number_of g
+
+-- and where check k of a list refused
 pub passed_on : {T : Type 0} (xs : List ℕ) (k : ℕ) (e : Refusal) (r : Result T Refusal) → BeforeLink k xs → IsErr r × IsErrAnd r (λ y. y ≡ e) → number_of e ≡ link_at k xs → code r ≡ chain xs
-passed_on xs k e (Ok x) b (f, g) h = cc
-passed_on xs k e (Err y) b (f, g) h = ap number_of g ∙ refused_at xs k e b h
+passed_on xs k e r b p h = code_passed e r p ∙ refused_at xs k e b h

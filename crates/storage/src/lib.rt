@@ -4,12 +4,16 @@
 ghost use Rattle.std.specs.Prelude.{◌≡◌, ◌<◌, ◌≤◌, length};
 ghost use Rattle.fields.specs.Bytes.{put};
 ghost use Rattle.amount.specs.Biased.{biased};
+ghost use Rattle.refusal.specs.Numbers.{code};
+ghost use Rattle.image.specs.Flags.{flag_bit};
 ghost use Rattle.image.specs.Layout.{image_length, slot, flags, tracked_count, credit, with_bit, without_bit};
 ghost use Rattle.image.specs.Good.{tracked};
 ghost use Rattle.storage.specs.Facts.{Good, Keys};
 ghost use Rattle.storage.specs.Setters.{track_key, set_credit, set_cap, record_balance, snapshot_number};
 
 use amount::Amount;
+use image::Flag;
+use refusal::Refusal;
 
 fn is_tracked(img: &[u8], k: u16) -> bool
     requires { (length img.now ≡ image_length) × Keys img.now }
@@ -76,20 +80,22 @@ pub fn without_bit(set: u64, k: u64) -> u64
     set - (1 << k)
 }
 
-pub fn set_flag(img: &mut [u8], k: u64)
-    requires { Good img.old × (k < 6) }
-    ensures { img.new ≡ put 2 img.old 0 (with_bit (flags img.old) k) }
+pub fn set_flag(img: &mut [u8], flag: Flag)
+    requires { Good img.old }
+    ensures { img.new ≡ put 2 img.old 0 (with_bit (flags img.old) (flag_bit flag)) }
 {
-    let f = fields::get16(img, 0);
-    fields::put16(img, 0, with_bit(f as u64, k) as u16);
+    let set = u64::from(fields::get16(img, 0));
+    let k = u64::from(flag.bit());
+    fields::put16(img, 0, with_bit(set, k) as u16);
 }
 
-pub fn clear_flag(img: &mut [u8], k: u64)
-    requires { Good img.old × (k < 6) }
-    ensures { img.new ≡ put 2 img.old 0 (without_bit (flags img.old) k) }
+pub fn clear_flag(img: &mut [u8], flag: Flag)
+    requires { Good img.old }
+    ensures { img.new ≡ put 2 img.old 0 (without_bit (flags img.old) (flag_bit flag)) }
 {
-    let f = fields::get16(img, 0);
-    fields::put16(img, 0, without_bit(f as u64, k) as u16);
+    let set = u64::from(fields::get16(img, 0));
+    let k = u64::from(flag.bit());
+    fields::put16(img, 0, without_bit(set, k) as u16);
 }
 
 pub fn set_token_max_limit(img: &mut [u8], address: usize, limit: Amount)
@@ -112,20 +118,25 @@ pub fn record_vault_balance(img: &mut [u8], t: usize, sequence: u32, balance: Am
     amount::write_amount(img, at + 8, balance);
 }
 
-// 11 where the snapshot of this sequence shows another balance, and 0.
-pub fn check_vault_balance(img: &[u8], t: usize, sequence: u32, balance: Amount) -> u8
+// 11 where the snapshot of this sequence shows another balance.
+pub fn check_vault_balance(
+    img: &[u8],
+    t: usize,
+    sequence: u32,
+    balance: Amount,
+) -> Result<(), Refusal>
     requires { (length img.now ≡ image_length) × (48 ≤ t) × (t < 64) }
-    ensures { result ≡ snapshot_number img.now t sequence (biased balance) }
+    ensures { code result ≡ snapshot_number img.now t sequence (biased balance) }
 {
     let at = 1120 + 24 * (t - 48);
     if fields::get32(img, at) != 1 {
-        return 0;
+        return Ok(());
     }
     if fields::get32(img, at + 4) != sequence {
-        return 0;
+        return Ok(());
     }
-    if amount::differ(amount::read_amount(img, at + 8), balance) != 0 {
-        return 11;
+    if amount::read_amount(img, at + 8) != balance {
+        return Err(Refusal::VaultBalanceChanged);
     }
-    0
+    Ok(())
 }

@@ -2,28 +2,30 @@
 #![tactic(auto)]
 
 ghost use Rattle.std.specs.Prelude.{◌≡◌, ◌+◌, ◌<◌, ◌≤◌, length};
+ghost use Rattle.refusal.specs.Numbers.{code};
 ghost use Rattle.amount.specs.Biased.{bias, biased, put_amount};
 ghost use Rattle.image.specs.Layout.{image_length, initialised, slot, toll, holding, holding_at};
 ghost use Rattle.storage.specs.Facts.{Good};
 ghost use Rattle.token.specs.Token.{absent_number, vault_balance, arrives, debited, transfer_number, transferred};
 
 use amount::Amount;
+use refusal::Refusal;
 
-// 23 where there is no such token, and 0.
-pub fn presence_check(img: &[u8], t: usize) -> u8
+// 23 where there is no such token.
+pub fn presence_check(img: &[u8], t: usize) -> Result<(), Refusal>
     requires { length img.now ≡ image_length }
-    ensures { result ≡ absent_number img.now t }
+    ensures { code result ≡ absent_number img.now t }
 {
     if t < 48 {
-        return 23;
+        return Err(Refusal::TokenCallFailed);
     }
     if t >= 64 {
-        return 23;
+        return Err(Refusal::TokenCallFailed);
     }
     if fields::get64(img, 3680 + 24 * (t - 48)) == 0 {
-        return 23;
+        return Err(Refusal::TokenCallFailed);
     }
-    0
+    Ok(())
 }
 
 pub fn balance(img: &[u8], t: usize, a: usize) -> Amount
@@ -53,10 +55,10 @@ pub fn arrives(toll: Amount, n: Amount) -> Amount
     requires { bias ≤ biased toll }
     ensures { biased result ≡ bias + arrives (biased toll) (biased n) }
 {
-    if amount::below(n, toll) != 0 {
-        return amount::zero();
+    if n < toll {
+        return Amount::ZERO;
     }
-    amount::minus(n, toll)
+    n - toll
 }
 
 // What a receiver gets of an amount of the token.
@@ -74,48 +76,45 @@ fn before_receipt(img: &[u8], t: usize, from: usize, to: usize, n: Amount) -> Am
 {
     let have = balance(img, t, to);
     if from == to {
-        return amount::minus(have, n);
+        return have - n;
     }
     have
 }
 
-fn transfer_check(img: &[u8], t: usize, from: usize, to: usize, n: Amount) -> u8
+fn transfer_check(img: &[u8], t: usize, from: usize, to: usize, n: Amount) -> Result<(), Refusal>
     requires { Good img.now × (from < 64) × (to < 64) × (bias ≤ biased n) }
-    ensures { result ≡ transfer_number img.now t from to (biased n) }
+    ensures { code result ≡ transfer_number img.now t from to (biased n) }
 {
     if t < 48 {
-        return 23;
+        return Err(Refusal::TokenCallFailed);
     }
     if t >= 64 {
-        return 23;
+        return Err(Refusal::TokenCallFailed);
     }
     if fields::get64(img, 3680 + 24 * (t - 48)) != 1 {
-        return 23;
+        return Err(Refusal::TokenCallFailed);
     }
-    if amount::below(balance(img, t, from), n) != 0 {
-        return 23;
+    if balance(img, t, from) < n {
+        return Err(Refusal::TokenCallFailed);
     }
     let have = before_receipt(img, t, from, to, n);
-    if amount::passes(have, after_toll(img, t, n)) != 0 {
-        return 23;
+    if have.checked_add(after_toll(img, t, n)).is_none() {
+        return Err(Refusal::TokenCallFailed);
     }
-    0
+    Ok(())
 }
 
 // 23 where the transfer fails; it then changes nothing.
-pub fn transfer(img: &mut [u8], t: usize, from: usize, to: usize, n: Amount) -> u8
+pub fn transfer(img: &mut [u8], t: usize, from: usize, to: usize, n: Amount) -> Result<(), Refusal>
     requires { Good img.old × (from < 64) × (to < 64) × (bias ≤ biased n) }
-    ensures value { result ≡ transfer_number img.old t from to (biased n) }
+    ensures value { code result ≡ transfer_number img.old t from to (biased n) }
     ensures img_after { img.new ≡ transferred img.old t from to (biased n) }
 {
-    let k = transfer_check(img, t, from, to, n);
-    if k != 0 {
-        return k;
-    }
+    transfer_check(img, t, from, to, n)?;
     let gain = after_toll(img, t, n);
-    let left = amount::minus(balance(img, t, from), n);
+    let left = balance(img, t, from) - n;
     set_balance(img, t, from, left);
     let have = balance(img, t, to);
-    set_balance(img, t, to, amount::plus(have, gain));
-    0
+    set_balance(img, t, to, have + gain);
+    Ok(())
 }

@@ -1,6 +1,8 @@
 -- `storage::check_vault_balance` meets its contract.
 use Rattle.storage.specs.Setters.{snapshot_number}
 use Rattle.fields.specs.Rules.{stop_at}
+use Rattle.std.proofs.Common.{rules}
+use Rattle.amount.specs.Order.{ne_true, ne_false}
 use native.Mathlib.Omega.{arith}
 use mathlib.Core.Path.{refl}
 use Rattle.storage.proofs.check_vault_balance.Goals as goal
@@ -13,10 +15,14 @@ pub returns-then-get32-sequence : goal.returns-then-get32-sequence
 unfolding snapshot_number
 returns-then-get32-sequence c = stop_at _ 1 _ (omega arith) refl
 
-pub returns-then-differ-ne0 : goal.returns-then-differ-ne0
+pub returns-then-ne : goal.returns-then-ne
 unfolding snapshot_number
-returns-then-differ-ne0 c = stop_at _ 2 _ (omega arith) refl
+returns-then-ne c =
+    let h = ne_true c.read_amount.result c.args.balance (search rules) (search rules) c.ne.ensures c.if-ne.true in
+    stop_at _ 2 _ (omega (arith, h)) refl
 
 pub returns : goal.returns
 unfolding snapshot_number
-returns c = stop_at _ 3 _ (omega arith) refl
+returns c =
+    let h = ne_false c.read_amount.result c.args.balance (search rules) (search rules) c.ne.ensures c.if-ne.false in
+    stop_at _ 3 _ (omega (arith, h)) refl

@@ -3,6 +3,9 @@ use Rattle.token.specs.Token.{transfer_number, received}
 use Rattle.fields.specs.Rules.{stop_at}
 use native.Mathlib.Omega.{arith}
 use mathlib.Core.Path.{refl}
+use Rattle.std.proofs.Common.{rules}
+use Rattle.amount.specs.Laws.{none_high, some_low}
+use Rattle.amount.specs.Order.{lt_true, lt_false}
 use Rattle.token.proofs.transfer_check.Goals as goal
 
 pub returns-then-t-lt48 : goal.returns-then-t-lt48
@@ -17,14 +20,23 @@ pub returns-then-get64-ne1 : goal.returns-then-get64-ne1
 unfolding transfer_number received
 returns-then-get64-ne1 c = stop_at _ 2 _ (omega arith) refl
 
-pub returns-then-below-ne0 : goal.returns-then-below-ne0
+pub returns-then-lt : goal.returns-then-lt
 unfolding transfer_number received
-returns-then-below-ne0 c = stop_at _ 3 _ (omega arith) refl
+returns-then-lt c = let h = lt_true c.balance.result c.args.n (search rules) (search rules) c.lt.ensures c.if-lt.true in stop_at _ 3 _ (omega arith) refl
 
-pub returns-then-passes-ne0 : goal.returns-then-passes-ne0
+pub before_receipt-have-requires : goal.before_receipt-have-requires
+before_receipt-have-requires c = let h = lt_false c.balance.result c.args.n (search rules) (search rules) c.lt.ensures c.if-lt.false in (search rules, omega arith, omega arith, omega arith, omega arith, omega arith, omega arith)
+
+pub returns-then-is_none : goal.returns-then-is_none
 unfolding transfer_number received
-returns-then-passes-ne0 c = stop_at _ 4 _ (omega arith) refl
+returns-then-is_none c =
+    let h = lt_false c.balance.result c.args.n (search rules) (search rules) c.lt.ensures c.if-lt.false in
+    let k = none_high _ _ c.checked_add.ensures c.is_none.ensures c.if-is_none.true (omega arith) in
+    stop_at _ 4 _ (omega arith) refl
 
 pub returns : goal.returns
 unfolding transfer_number received
-returns c = stop_at _ 5 _ (omega arith) refl
+returns c =
+    let h = lt_false c.balance.result c.args.n (search rules) (search rules) c.lt.ensures c.if-lt.false in
+    let k = some_low _ _ c.checked_add.ensures c.is_none.ensures c.if-is_none.false in
+    stop_at _ 5 _ (omega arith) refl
