@@ -108,12 +108,10 @@ pub fn not_negatives(s: &[u8], a: usize, n: usize) -> bool
     requires { (a + 16 * n ≤ length s.now) × (n ≤ 64) }
     ensures { result ≡ not_negatives s.now a n }
 {
-    let mut i = 0;
-    while i < n {
+    for i in 0..n {
         if s[a + 16 * i + 15] >= 128 {
             return false;
         }
-        i += 1;
     }
     true
 }
@@ -198,12 +196,10 @@ fn good_caps(s: &[u8]) -> bool
     ensures { result ≡ all (good_cap s.now) 64 }
 {
     let set = fields::get64(s, 80);
-    let mut a = 0;
-    while a < 64 {
+    for a in 0..64 {
         if !above_where(s, 96 + 16 * a, set, a as u64) {
             return false;
         }
-        a += 1;
     }
     true
 }
@@ -213,8 +209,7 @@ fn fresh_keys(s: &[u8], n: usize) -> bool
     ensures { result ≡ all (fresh_key s.now) n }
 {
     let mut seen = [0u8; 1088];
-    let mut i = 0;
-    while i < n {
+    for i in 0..n {
         let k = fields::get16(s, 1504 + 2 * i) as usize;
         if k >= 1088 {
             return false;
@@ -223,7 +218,6 @@ fn fresh_keys(s: &[u8], n: usize) -> bool
             return false;
         }
         seen[k] = 1;
-        i += 1;
     }
     true
 }
@@ -293,12 +287,10 @@ fn good_tokens(s: &[u8]) -> bool
     requires { length s.now ≡ image_length }
     ensures { result ≡ all (good_token s.now) 16 }
 {
-    let mut t = 0;
-    while t < 16 {
+    for t in 0..16 {
         if !good_token(s, t) {
             return false;
         }
-        t += 1;
     }
     true
 }

@@ -173,12 +173,10 @@ fn items_within(rec: &[u8], count: usize) -> bool
     requires { (length rec.now ≡ 448) × (count ≤ 16) }
     ensures { result ≡ items_within rec.now count }
 {
-    let mut i: usize = 0;
-    while i < count {
+    for i in 0..count {
         if item_address(rec, i) > 63 {
             return false;
         }
-        i += 1;
     }
     true
 }

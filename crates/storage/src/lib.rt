@@ -20,12 +20,10 @@ fn is_tracked(img: &[u8], k: u16) -> bool
     ensures { result ≡ tracked img.now (tracked_count img.now) k }
 {
     let n = fields::get64(img, 88);
-    let mut i: u64 = 0;
-    while i < n {
+    for i in 0..n {
         if fields::get16(img, 1504 + 2 * (i as usize)) == k {
             return true;
         }
-        i += 1;
     }
     false
 }

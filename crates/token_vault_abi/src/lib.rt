@@ -96,7 +96,14 @@ pub extern "C" fn token_vault_trial_records(
 ) -> u32
     ensures { TrialIs (trial start first records.old) result records.new reached.new }
 {
-    trial_records::trial_records(start, first, records, reached)
+    *reached = start;
+    match trial_records::trial_records(start, first, records) {
+        Ok(last) => {
+            *reached = last;
+            0
+        }
+        Err(refusal) => u32::from(u8::from(refusal)),
+    }
 }
 
 // The least and the greatest holding of the vault after amounts are moved in, where the token's toll is known within bounds.

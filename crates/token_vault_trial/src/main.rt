@@ -188,8 +188,7 @@ fn make_piece<O: Write>(
     ensures written { result.is_written ≡ true → Appends (O.contents output.old) (O.contents output.new) (records_from (reached_from start made) (first + made) n) }
 {
     let end = 448 * n as usize;
-    let mut reached = 0u64;
-    trial_records::trial_records(last, first + made, &mut buffer[..end], &mut reached);
+    let reached = trial_records::trial_records(last, first + made, &mut buffer[..end]).unwrap();
     let is_written = write_piece(output, &buffer[..end], start, first, made, n);
     Piece {
         n,

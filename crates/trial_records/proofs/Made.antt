@@ -1,5 +1,5 @@
 -- Records one after another: in two parts, one of them, and what holds along the loop that makes them.
-use Rattle.std.proofs.Common.{◌≡◌, ℕ, suc, ◌+◌, ◌-◌, ◌*◌, ◌/◌, ◌%◌, ◌<◌, ◌≤◌, List, ◌++◌, length, take, drop, sym, refl, ap, ◌∙◌, append_assoc, append-nil, add-zero, arith, length-append, length-drop, drop_of_length-le, drop-drop, take_at, drop_at}
+use Rattle.std.proofs.Common.{◌≡◌, ℕ, suc, ◌+◌, ◌-◌, ◌*◌, ◌/◌, ◌%◌, ◌<◌, ◌≤◌, List, ◌++◌, length, take, drop, sym, refl, ap, ◌∙◌, append_assoc, append-nil, add-one, add-zero, arith, drop_of_length-le, drop-drop, take_at, drop_at}
 use Rattle.trial_records.specs.Generator.{steps}
 use Rattle.trial_records.specs.Trial.{trial_record, reached_from, records_from}
 use Rattle.trial_records.specs.Laws.{record_long, records_long, records_parts}
@@ -22,47 +22,33 @@ record_at_lem start first n i h =
     ∙ ap (take 448) next
     ∙ take_at (trial_record s f) _ 448 (record_long s f)
 
--- ---- the loop that makes them: `at` bytes of the buffer l₀ are made, and the rest is as it was
-pub record Making (start first : ℕ) (l₀ : List ℕ) (at number last : ℕ) (l : List ℕ) : Type 0 where
-  pub whole : at % 448 ≡ 0
-  pub within : at ≤ length l₀
-  pub numbered : number ≡ first + at / 448
-  pub arrived : last ≡ reached_from start (at / 448)
-  pub written : l ≡ records_from start first (at / 448) ++ drop at l₀
+-- ---- the loop that makes them: n records of the buffer l₀ are made, and the rest is as it was
+pub record Making (start first : ℕ) (l₀ : List ℕ) (n last : ℕ) (l : List ℕ) : Type 0 where
+  pub arrived : last ≡ reached_from start n
+  pub written : l ≡ records_from start first n ++ drop (448 * n) l₀
 
-pub making_starts : (start first : ℕ) (l₀ : List ℕ) → Making start first l₀ 0 first start l₀
+pub making_starts : (start first : ℕ) (l₀ : List ℕ) → Making start first l₀ 0 start l₀
 unfolding records_from reached_from
-making_starts start first l₀ = record { whole = refl; within = omega arith; numbered = omega arith; arrived = refl; written = refl }
+making_starts start first l₀ = record { arrived = refl; written = refl }
 
-pub making_long : (start first : ℕ) (l₀ : List ℕ) (at number last : ℕ) (l : List ℕ) → Making start first l₀ at number last l → length l ≡ length l₀
-making_long start first l₀ at number last l g =
-    let u = g.whole in
-    let w = g.within in
-    ap length g.written ∙ rw (length-append, records_long start first (at / 448), length-drop) (omega arith)
-
--- one record more: the k bytes from `at` on, which are 448, are written
-pub making_more : (start first : ℕ) (l₀ : List ℕ) (at number last : ℕ) (l m : List ℕ) (k : ℕ) → Making start first l₀ at number last l → at + 448 ≤ length l₀ → k ≡ 448
-    → m ≡ take at l ++ (trial_record last number ++ drop k (drop at l)) → Making start first l₀ (at + 448) (number + 1) (steps 6 last) m
+-- one record more: the k bytes behind n records, which are 448, are written
+pub making_more : (start first : ℕ) (l₀ : List ℕ) (n last : ℕ) (l m : List ℕ) (k : ℕ) → Making start first l₀ n last l → k ≡ 448
+    → m ≡ take (448 * n) l ++ (trial_record last (first + n) ++ drop k (drop (448 * n) l)) → Making start first l₀ (n + 1) (steps 6 last) m
 unfolding records_from reached_from
-making_more start first l₀ at number last l m k g h j e =
-    let u = g.whole in
-    let n = at / 448 in
-    let more : (at + 448) / 448 ≡ suc n = omega arith in
-    let long : length (records_from start first n) ≡ at = records_long start first n ∙ omega arith in
+making_more start first l₀ n last l m k g j e =
+    let at = 448 * n in
+    let long = records_long start first n in
     let front : take at l ≡ records_from start first n = ap (take at) g.written ∙ take_at (records_from start first n) _ at long in
-    let behind : drop k (drop at l) ≡ drop (at + 448) l₀ =
-    ap (λ (i : ℕ). drop i (drop at l)) j ∙ ap (drop 448) (ap (drop at) g.written ∙ drop_at (records_from start first n) _ at long) ∙ drop-drop 448 at l₀ in
+    let next : at + 448 ≡ 448 * (n + 1) = omega arith in
+    let behind : drop k (drop at l) ≡ drop (448 * (n + 1)) l₀ =
+    ap (λ (i : ℕ). drop i (drop at l)) j ∙ ap (drop 448) (ap (drop at) g.written ∙ drop_at (records_from start first n) _ at long) ∙ drop-drop 448 at l₀ ∙ ap (λ (i : ℕ). drop i l₀) next in
     record {
-      whole = omega arith;
-      within = h;
-      numbered = let f = g.numbered in omega arith;
-      arrived = rw (more, g.arrived);
-      written = e ∙ rw (front, behind, more, g.arrived, g.numbered) (sym (append_assoc (records_from start first n) (trial_record (reached_from start n) (first + n)) (drop (at + 448) l₀)));
+      arrived = rw (add-one, g.arrived);
+      written = e ∙ rw (front, behind, add-one, g.arrived) (sym (append_assoc (records_from start first n) (trial_record (reached_from start n) (first + n)) (drop (448 * suc n) l₀)));
     }
 
-pub making_ends : (start first : ℕ) (l₀ : List ℕ) (at number last : ℕ) (l : List ℕ) → Making start first l₀ at number last l → length l₀ ≤ at
+pub making_ends : (start first : ℕ) (l₀ : List ℕ) (n last : ℕ) (l : List ℕ) → Making start first l₀ n last l → n ≡ length l₀ / 448 → length l₀ % 448 ≡ 0
     → (l ≡ records_from start first (length l₀ / 448)) × (last ≡ reached_from start (length l₀ / 448))
-making_ends start first l₀ at number last l g h =
-    let w = g.within in
-    let e : at ≡ length l₀ = omega arith in
-    (g.written ∙ ap (λ (k : List ℕ). records_from start first (at / 448) ++ k) (drop_of_length-le l₀ h) ∙ append-nil (records_from start first (at / 448)) ∙ ap (λ (k : ℕ). records_from start first (k / 448)) e, g.arrived ∙ ap (λ (k : ℕ). reached_from start (k / 448)) e)
+making_ends start first l₀ n last l g e h =
+    let z : length l₀ ≤ 448 * n = omega arith in
+    (g.written ∙ ap (λ (k : List ℕ). records_from start first n ++ k) (drop_of_length-le l₀ z) ∙ append-nil (records_from start first n) ∙ ap (records_from start first) e, g.arrived ∙ ap (reached_from start) e)

@@ -1,30 +1,36 @@
 -- The theorems on trial records.
 use Rattle.std.proofs.Common.{◌≡◌, ℕ, ◌+◌, ◌/◌, ◌%◌, ◌^◌, ◌<◌, Bool, true, false, eqb, List, length, sym, refl, ap, ◌∙◌, arith, eqb-true}
+use Rattle.std.specs.Prelude.{Result, Ok, Err, IsErr, IsErrAnd}
 use Rattle.fields.specs.Rules.{pick}
+use Rattle.refusal.specs.declared.Refusal.{Refusal}
+use Rattle.refusal.specs.Numbers.{number_of, code}
+use Rattle.refusal.specs.Laws.{some_number}
 use Rattle.record.specs.Form.{form_number}
-use Rattle.trial_records.specs.Trial.{draws_from, record_of, trial_record, reached_from, records_from, trial_number, Trial, made, refused, trial, TrialIs}
+use Rattle.trial_records.specs.Trial.{draws_from, record_of, trial_record, reached_from, records_from, trial_number, Trial, made, refused, trial, TrialIs, reached_or}
 use Rattle.trial_records.specs.Theorems.{SameAsWhole, goes_on, record_at, ReadAs, TrialRecords}
 use Rattle.trial_records.specs.Laws.{Allowed, allowed, is_allowed, trial-made, trial-refused, reached_parts, records_parts}
 use Rattle.trial_records.proofs.Fields.{draws_within, read_as, record_bytes, good_form}
 use Rattle.trial_records.proofs.Made.{record_at_lem}
 
 -- what the code gives, in either case
-pub refused_is : (start first : ℕ) (l : List ℕ) (number : ℕ) → number ≡ trial_number first (length l) → (number ≡ 0 → ⊥) → TrialIs (trial start first l) number l start
-refused_is start first l number e h =
-    rw (trial-refused start first l (λ z. h (e ∙ z))) (record { numbered = e; written = refl; arrived = refl })
+pub refused_is : (start first : ℕ) (l : List ℕ) (e : Refusal) (r : Result ℕ Refusal) → number_of e ≡ trial_number first (length l)
+    → IsErr r × IsErrAnd r (λ y. y ≡ e) → TrialIs (trial start first l) (code r) l (reached_or start r)
+refused_is start first l e (Ok x) h (f, g) = cc
+refused_is start first l e (Err y) h (f, g) =
+    rw (trial-refused start first l (λ z. some_number e (h ∙ z))) (record { numbered = ap number_of g ∙ h; written = refl; arrived = refl })
 
 pub made_is : (start first : ℕ) (l : List ℕ) (buffer : List ℕ) (reached : ℕ) → trial_number first (length l) ≡ 0
     → (buffer ≡ records_from start first (length l / 448)) × (reached ≡ reached_from start (length l / 448)) → TrialIs (trial start first l) 0 buffer reached
 made_is start first l buffer reached z m =
     rw (trial-made start first l z) (record { numbered = refl; written = m.0; arrived = m.1 })
 
-number_of : (n : ℕ) (t : Bool) (m r : Trial) → eqb n 0 ≡ t → r.number ≡ n → (pick t m r).number ≡ 0 → n ≡ 0
-number_of n true m r f g e = eqb-true n 0 f
-number_of n false m r f g e = sym g ∙ e
+picked_none : (n : ℕ) (t : Bool) (m r : Trial) → eqb n 0 ≡ t → r.number ≡ n → (pick t m r).number ≡ 0 → n ≡ 0
+picked_none n true m r f g e = eqb-true n 0 f
+picked_none n false m r f g e = sym g ∙ e
 
 trial_number_lem : (start first : ℕ) (l : List ℕ) → (trial start first l).number ≡ 0 → trial_number first (length l) ≡ 0
 unfolding trial
-trial_number_lem start first l e = number_of (trial_number first (length l)) _ (made start first (length l / 448)) (refused (trial_number first (length l)) start l) refl refl e
+trial_number_lem start first l e = picked_none (trial_number first (length l)) _ (made start first (length l / 448)) (refused (trial_number first (length l)) start l) refl refl e
 
 -- ---- in two parts
 parts_allowed : (first m n k : ℕ) → Allowed first m → Allowed (first + m / 448) n → k ≡ m + n → Allowed first k × (k / 448 ≡ m / 448 + n / 448)

@@ -1,5 +1,6 @@
 -- Trial records: a record of six draws, the list of records from a starting number, and refusal 32 (docs/FORMATS.md, "Trial records").
-use Rattle.std.specs.Prelude.{◌≡◌, ℕ, zero, suc, ◌+◌, ◌/◌, ◌%◌, ◌^◌, List, [], ◌∷◌, ◌++◌, length, replicate, ◌==◌}
+use Rattle.std.specs.Prelude.{◌≡◌, ℕ, zero, suc, ◌+◌, ◌/◌, ◌%◌, ◌^◌, List, [], ◌∷◌, ◌++◌, length, replicate, ◌==◌, Result, Ok, Err}
+use Rattle.refusal.specs.declared.Refusal.{Refusal}
 use Rattle.fields.specs.Bytes.{put}
 use Rattle.fields.specs.Rules.{Rule, when, verdict, eq, ne, lt, pick}
 use Rattle.trial_records.specs.Generator.{draw, steps}
@@ -99,6 +100,11 @@ unfoldable pub trial : (start first : ℕ) → (buffer : List ℕ) → Trial
 trial start first buffer =
     let number = trial_number first (length buffer) in
     pick (number == 0) (made start first (length buffer / 448)) (refused number start buffer)
+
+-- the number that an answer reached, which at a refusal is the starting number
+abbrev pub reached_or : (start : ℕ) → Result ℕ Refusal → ℕ
+reached_or start (Ok reached) = reached
+reached_or start (Err _) = start
 
 -- what a caller finds: the number that is returned, the buffer, and the number reached
 pub record TrialIs (t : Trial) (number : ℕ) (buffer : List ℕ) (reached : ℕ) : Type 0 where

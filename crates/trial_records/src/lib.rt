@@ -3,31 +3,22 @@
 
 ghost use Rattle.std.specs.Prelude.{◌≡◌, ◌+◌, ◌*◌, ◌/◌, ◌%◌, ◌^◌, ◌<◌, ◌≤◌, length};
 ghost use Rattle.fields.specs.Bytes.{put};
+ghost use Rattle.refusal.specs.Numbers.{code};
 ghost use Rattle.trial_records.specs.Generator.{next, draw, steps};
-ghost use Rattle.trial_records.specs.Trial.{draws_from, laid, head_fields, trial_fields, trial_record, reached_from, records_from, trial_number, trial, TrialIs};
+ghost use Rattle.trial_records.specs.Trial.{draws_from, laid, head_fields, trial_fields, trial_record, reached_from, records_from, trial_number, trial, TrialIs, reached_or};
 ghost use Rattle.trial_records.specs.Parts.{draws_of};
 ghost use Rattle.trial_records.specs.Theorems.{TrialRecords};
+
+use refusal::Refusal;
 
 const MULTIPLIER: u64 = 6364136223846793005;
 
 const INCREMENT: u64 = 1442695040888963407;
 
-// a * b, modulo 2^64, which std::num has not. Of the mixed products of the halves only the low half counts.
-fn wrapping_mul_u64(a: u64, b: u64) -> u64
-    ensures { result ≡ a * b % 2 ^ 64 }
-{
-    let low = (a % 4294967296) * (b % 4294967296);
-    let mixed = std::num::wrapping_add_u64(
-        (a / 4294967296) * (b % 4294967296),
-        (a % 4294967296) * (b / 4294967296),
-    );
-    std::num::wrapping_add_u64(low, (mixed % 4294967296) * 4294967296)
-}
-
 fn next(last: u64) -> u64
     ensures { result ≡ next last }
 {
-    std::num::wrapping_add_u64(wrapping_mul_u64(MULTIPLIER, last), INCREMENT)
+    MULTIPLIER.wrapping_mul(last).wrapping_add(INCREMENT)
 }
 
 // The upper 32 bits, below a bound.
@@ -120,47 +111,38 @@ fn make_records(start: u64, first: u64, records: &mut [u8]) -> u64
     ensures { (records.new ≡ records_from start first (length records.old / 448)) × (result ≡ reached_from start (length records.old / 448)) }
 {
     let mut last = start;
-    let mut number = first;
-    let mut at = 0;
-    while at < records.len() {
-        let end = at + 448;
-        last = make_record(&mut records[at..end], last, number as u32);
-        number += 1;
-        at = end;
+    for i in 0..records.len() / 448 {
+        let number = first + i as u64;
+        last = make_record(&mut records[448 * i..448 * i + 448], last, number as u32);
     }
     last
 }
 
-// 32 where the records cannot be made, and 0. A first number above 2^32 comes before the sum, which could pass 2^64.
-fn trial_check(first: u64, bytes: usize) -> u32
-    ensures { result ≡ trial_number first bytes }
+// A first number above 2^32 comes before the sum, which could pass 2^64.
+fn trial_check(first: u64, bytes: usize) -> Result<(), Refusal>
+    ensures { code result ≡ trial_number first bytes }
 {
     if bytes % 448 != 0 {
-        return 32;
+        return Err(Refusal::InvalidRecord);
     }
     if first == 0 {
-        return 32;
+        return Err(Refusal::InvalidRecord);
     }
     if first > 4294967296 {
-        return 32;
+        return Err(Refusal::InvalidRecord);
     }
     if first + (bytes / 448) as u64 > 4294967296 {
-        return 32;
+        return Err(Refusal::InvalidRecord);
     }
-    0
+    Ok(())
 }
 
 // Fills the buffer with records from number `first` on, and says which number of the generator the last draw reached.
-pub fn trial_records(start: u64, first: u64, records: &mut [u8], reached: &mut u64) -> u32
-    ensures { TrialIs (trial start first records.old) result records.new reached.new }
+pub fn trial_records(start: u64, first: u64, records: &mut [u8]) -> Result<u64, Refusal>
+    ensures { TrialIs (trial start first records.old) (code result) records.new (reached_or start result) }
 {
-    *reached = start;
-    let number = trial_check(first, records.len());
-    if number != 0 {
-        return number;
-    }
-    *reached = make_records(start, first, records);
-    0
+    trial_check(first, records.len())?;
+    Ok(make_records(start, first, records))
 }
 
 // What holds of all trial records, over the definition that the contract above cites.

@@ -6,7 +6,7 @@ use borrow.Author.Rules.{rules}
 use Rattle.image.proofs.good_caps.Goals as goal
 
 pub loop-a-init : goal.loop-a-init
-loop-a-init c = (search rules, all_none (good_cap c.args.s.now))
+loop-a-init c = all_none (good_cap c.args.s.now)
 
 pub returns-then-not-above_where : goal.returns-then-not-above_where
 unfolding good_cap
@@ -14,7 +14,7 @@ returns-then-not-above_where c = let e : c.above_where.result ≡ good_cap c.arg
 
 pub loop-a-preserved : goal.loop-a-preserved
 unfolding good_cap
-loop-a-preserved c = let e : c.above_where.result ≡ good_cap c.args.s.now c.loop-a.a = cc in (search rules, all-step (good_cap c.args.s.now) c.loop-a.a c.loop-a.invariant.1 (sym e ∙ c.if-not-above_where.false))
+loop-a-preserved c = let e : c.above_where.result ≡ good_cap c.args.s.now c.loop-a.a = cc in all-step (good_cap c.args.s.now) c.loop-a.a c.loop-a.invariant (sym e ∙ c.if-not-above_where.false)
 
 pub returns : goal.returns
-returns c = all_end (good_cap c.args.s.now) c.loop-a.a 64 (search rules) (search rules) c.loop-a.invariant.1
+returns c = all_end (good_cap c.args.s.now) c.loop-a.a 64 (search rules) (search rules) c.loop-a.invariant

@@ -6,13 +6,13 @@ use borrow.Author.Rules.{rules}
 use Rattle.image.proofs.good_tokens.Goals as goal
 
 pub loop-t-init : goal.loop-t-init
-loop-t-init c = (search rules, all_none (good_token c.args.s.now))
+loop-t-init c = all_none (good_token c.args.s.now)
 
 pub returns-then-not-good_token : goal.returns-then-not-good_token
 returns-then-not-good_token c = let g = c.good_token in all_stop (good_token c.args.s.now) c.loop-t.t 16 (search rules) (sym g.ensures ∙ c.if-not-good_token.true)
 
 pub loop-t-preserved : goal.loop-t-preserved
-loop-t-preserved c = let g = c.good_token in (search rules, all-step (good_token c.args.s.now) c.loop-t.t c.loop-t.invariant.1 (sym g.ensures ∙ c.if-not-good_token.false))
+loop-t-preserved c = let g = c.good_token in all-step (good_token c.args.s.now) c.loop-t.t c.loop-t.invariant (sym g.ensures ∙ c.if-not-good_token.false)
 
 pub returns : goal.returns
-returns c = all_end (good_token c.args.s.now) c.loop-t.t 16 (search rules) (search rules) c.loop-t.invariant.1
+returns c = all_end (good_token c.args.s.now) c.loop-t.t 16 (search rules) (search rules) c.loop-t.invariant

@@ -1,13 +1,9 @@
 -- `image::good_tokens` meets its contract.
 use mathlib.Core.Path.{◌≡◌}
 use mathlib.Core.Bool.{true}
-use Prim.Native.Nat.{◌-◌, ◌≤◌}
 use Rattle.fields.specs.Logic.{all}
 use Rattle.image.specs.Good.{good_token}
 use Rattle.image.proofs.good_tokens.Given as goal
 
 abbrev pub invariant-loop-t : goal.invariant-loop-t
-invariant-loop-t l = (l.t ≤ 16) × (true ≡ all (good_token l.s) l.t)
-
-abbrev pub decreases-loop-t : goal.decreases-loop-t
-decreases-loop-t l = 16 - l.t
+invariant-loop-t l = true ≡ all (good_token l.s) l.t

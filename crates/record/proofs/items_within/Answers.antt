@@ -9,7 +9,7 @@ use Rattle.record.proofs.items_within.Goals as goal
 
 pub loop-i-init : goal.loop-i-init
 unfolding items_within
-loop-i-init c = (search rules, all_none (item_within c.args.rec.now))
+loop-i-init c = all_none (item_within c.args.rec.now)
 
 pub returns-then-item_address-gt63 : goal.returns-then-item_address-gt63
 unfolding items_within
@@ -19,9 +19,9 @@ returns-then-item_address-gt63 c = let l = c.loop-i in let x = c.args in
 pub loop-i-preserved : goal.loop-i-preserved
 unfolding items_within
 loop-i-preserved c = let l = c.loop-i in let x = c.args in
-    (search rules, all-step (item_within x.rec.now) l.i l.invariant.1 (lt-ltb (item_address x.rec.now l.i) 64 (omega arith)))
+    all-step (item_within x.rec.now) l.i l.invariant (lt-ltb (item_address x.rec.now l.i) 64 (omega arith))
 
 pub returns : goal.returns
 unfolding items_within
 returns c = let l = c.loop-i in let x = c.args in
-    all_end (item_within x.rec.now) l.i x.count (search rules) (search rules) l.invariant.1
+    all_end (item_within x.rec.now) l.i x.count (search rules) (search rules) l.invariant

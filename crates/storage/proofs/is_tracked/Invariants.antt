@@ -6,7 +6,4 @@ use mathlib.Core.Path.{◌≡◌}
 use Rattle.storage.proofs.is_tracked.Given as goal
 
 abbrev pub invariant-loop-i : goal.invariant-loop-i
-invariant-loop-i l = (l.i ≤ l.n) × (false ≡ tracked l.img l.i l.k)
-
-abbrev pub decreases-loop-i : goal.decreases-loop-i
-decreases-loop-i l = l.n - l.i
+invariant-loop-i l = false ≡ tracked l.img l.i l.k
