@@ -27,7 +27,6 @@ ghost use Rattle.image.specs.Good.{
   good_image,
 };
 
-use fields::{both, either};
 pub use flag::Flag;
 
 fn below(a: u64, b: u64) -> bool
@@ -82,7 +81,7 @@ fn nothing_at(s: &[u8], at: usize) -> bool
     requires { at + 16 ≤ length s.now }
     ensures { result ≡ eqb (amount_at s.now at) bias }
 {
-    both(zero64_at(s, at), zero64_at(s, at + 8))
+    zero64_at(s, at) & zero64_at(s, at + 8)
 }
 
 fn not_negative_at(s: &[u8], at: usize) -> bool
@@ -126,7 +125,7 @@ fn good_addresses(s: &[u8]) -> bool
     let d = address_at(s, 5);
     let e = address_at(s, 6);
     let f = address_at(s, 7);
-    both(a, both(b, both(c, both(d, both(e, f)))))
+    a & b & c & d & e & f
 }
 
 fn good_defaults(s: &[u8]) -> bool
@@ -137,10 +136,10 @@ fn good_defaults(s: &[u8]) -> bool
     let b = below(0, fields::get64(s, 48));
     let t = fields::get8(s, 3);
     if t < 48 {
-        return both(a, both(b, false));
+        return a & b & false;
     }
     let k = 3680 + 24 * ((t - 48) as usize);
-    both(a, both(b, below(0, fields::get64(s, k))))
+    a & b & below(0, fields::get64(s, k))
 }
 
 fn good_pending(s: &[u8], f: u64) -> bool
@@ -150,7 +149,7 @@ fn good_pending(s: &[u8], f: u64) -> bool
     let a = zero8_at(s, 5);
     let b = zero8_at(s, 6);
     let c = zero64_at(s, 40);
-    either(bit_of(f, 4), both(a, both(b, c)))
+    bit_of(f, 4) | (a & b & c)
 }
 
 fn good_migration(s: &[u8], f: u64) -> bool
@@ -160,18 +159,18 @@ fn good_migration(s: &[u8], f: u64) -> bool
     let a = zero8_at(s, 7);
     let b = zero64_at(s, 56);
     let c = zero64_at(s, 64);
-    either(bit_of(f, 5), both(a, both(b, c)))
+    bit_of(f, 5) | (a & b & c)
 }
 
 fn good_options(s: &[u8], f: u64) -> bool
     requires { (length s.now ≡ image_length) × (f ≡ le 2 s.now 0) }
     ensures { result ≡ good_options s.now }
 {
-    let a = either(bit_of(f, 2), zero8_at(s, 4));
+    let a = bit_of(f, 2) | zero8_at(s, 4);
     let b = above_where(s, 24, f, 3);
     let c = good_pending(s, f);
     let d = good_migration(s, f);
-    both(a, both(b, both(c, d)))
+    a & b & c & d
 }
 
 fn good_head(s: &[u8]) -> bool
@@ -188,7 +187,7 @@ fn good_head(s: &[u8]) -> bool
     if !good_addresses(s) {
         return false;
     }
-    both(good_defaults(s), good_options(s, f))
+    good_defaults(s) & good_options(s, f)
 }
 
 fn good_caps(s: &[u8]) -> bool
@@ -231,10 +230,7 @@ fn good_keys(s: &[u8]) -> bool
         return false;
     }
     let m = n as usize;
-    both(
-        fresh_keys(s, m),
-        fields::are_zero(s, 1504 + 2 * m, 2176 - 2 * m),
-    )
+    fresh_keys(s, m) & fields::are_zero(s, 1504 + 2 * m, 2176 - 2 * m)
 }
 
 fn good_snapshot(s: &[u8], t: usize) -> bool
@@ -245,7 +241,7 @@ fn good_snapshot(s: &[u8], t: usize) -> bool
     let p = fields::get32(s, at) as u64;
     let q = fields::get32(s, at + 4) as u64;
     let h = nothing_at(s, at + 8);
-    both(below(p, 2), either(same(p, 1), both(same(q, 0), h)))
+    below(p, 2) & (same(p, 1) | (same(q, 0) & h))
 }
 
 fn good_absent(s: &[u8], t: usize) -> bool
@@ -256,7 +252,7 @@ fn good_absent(s: &[u8], t: usize) -> bool
     let p = fields::get32(s, 1120 + 24 * t) as u64;
     let h = fields::are_zero(s, 4064 + 1024 * t, 1024);
     let c = fields::are_zero(s, 20448 + 1024 * t, 1024);
-    both(a, both(same(p, 0), both(h, c)))
+    a & same(p, 0) & h & c
 }
 
 fn good_present(s: &[u8], t: usize) -> bool
@@ -266,7 +262,7 @@ fn good_present(s: &[u8], t: usize) -> bool
     let a = not_negative_at(s, 3688 + 24 * t);
     let h = not_negatives(s, 4064 + 1024 * t, 64);
     let c = not_negatives(s, 20448 + 1024 * t, 64);
-    both(a, both(h, c))
+    a & h & c
 }
 
 fn good_token(s: &[u8], t: usize) -> bool
@@ -277,9 +273,9 @@ fn good_token(s: &[u8], t: usize) -> bool
     let a = below(k, 3);
     let b = good_snapshot(s, t);
     if k == 0 {
-        both(a, both(b, good_absent(s, t)))
+        a & b & good_absent(s, t)
     } else {
-        both(a, both(b, good_present(s, t)))
+        a & b & good_present(s, t)
     }
 }
 
@@ -306,5 +302,5 @@ pub fn good_image(s: &[u8]) -> bool
     let c = good_caps(s);
     let k = good_keys(s);
     let t = good_tokens(s);
-    both(h, both(c, both(k, t)))
+    h & c & k & t
 }

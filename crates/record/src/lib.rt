@@ -8,7 +8,6 @@ ghost use Rattle.record.specs.Record.{operation_of, caller_of, token_of, other_o
 ghost use Rattle.record.specs.Form.{reads_caller, reads_token, reads_other, reads_flag, reads_items, is_view, items_within, head_exceeds, items_exceed, form_number};
 
 use amount::Amount;
-use fields::either;
 
 pub fn operation(rec: &[u8]) -> u8
     requires { length rec.now ≡ 448 }
@@ -190,7 +189,7 @@ fn head_exceeds(rec: &[u8]) -> bool
     let b = exceeds(reads_token(o), token(rec), 63);
     let c = exceeds(reads_other(o), other(rec), 63);
     let d = exceeds(reads_flag(o), flag(rec), 1);
-    either(a, either(b, either(c, d)))
+    a | b | c | d
 }
 
 fn items_exceed(rec: &[u8]) -> bool

@@ -5,7 +5,7 @@ use Prim.Native.Nat.{ℕ, ◌/◌, ◌%◌, ◌^◌, ◌≤◌, ◌<◌}
 use native.Mathlib.Omega.{arith}
 use borrow.Author.Tests.{lt-ltb, le-ltb}
 use lib.Dec.{eqb}
-use Rattle.fields.specs.Logic.{false_and, true_and}
+use Rattle.fields.specs.Logic.{false_and, true_and, and_is}
 use Rattle.fields.specs.Bytes.{le}
 use Rattle.image.specs.Good.{good_addresses, good_head}
 use Rattle.image.specs.Laws.{token_address}
@@ -29,4 +29,4 @@ good_defaults-requires c = let g = c.good_addresses in (search rules, token_addr
 
 pub returns : goal.returns
 unfolding good_head
-returns c = let l = c.args.s.now in let g = c.good_addresses in let h : le 2 l 0 < 64 = omega arith in let o : eqb (le 2 l 0 / 2 ^ 0 % 2) 1 ≡ true = ap (λ (x : ℕ). eqb (x / 2 ^ 0 % 2) 1) (sym c.get16-f.ensures) ∙ (sym c.bit_of.ensures ∙ c.if-not-bit_of.false) in let a : good_addresses l ≡ true = sym g.ensures ∙ c.if-not-good_addresses.false in rw (lt-ltb (le 2 l 0) 64 h, true_and, o, a, true_and) (cc)
+returns c = let l = c.args.s.now in let g = c.good_addresses in let h : le 2 l 0 < 64 = omega arith in let o : eqb (le 2 l 0 / 2 ^ 0 % 2) 1 ≡ true = ap (λ (x : ℕ). eqb (x / 2 ^ 0 % 2) 1) (sym c.get16-f.ensures) ∙ (sym c.bit_of.ensures ∙ c.if-not-bit_of.false) in let a : good_addresses l ≡ true = sym g.ensures ∙ c.if-not-good_addresses.false in rw (lt-ltb (le 2 l 0) 64 h, true_and, o, a, true_and) (simp and_is (cc))

@@ -1,13 +1,11 @@
 -- `record::head_exceeds` meets its contract.
 use Rattle.record.specs.Form.{head_exceeds}
+use Rattle.fields.specs.Logic.{or_is, or_assoc}
 use Rattle.record.proofs.head_exceeds.Goals as goal
 
 pub returns : goal.returns
 unfolding head_exceeds
-returns c = rw (
-  c.either-3.ensures,
-  c.either-2.ensures,
-  c.either.ensures,
+returns c = simp (or_is, or_assoc) (rw (
   c.exceeds-a.ensures,
   c.exceeds-b.ensures,
   c.exceeds-c.ensures,
@@ -21,4 +19,4 @@ returns c = rw (
   c.reads_flag.ensures,
   c.flag.ensures,
   c.operation-o.ensures,
-)
+))
