@@ -3,7 +3,7 @@ use Rattle.std.specs.Prelude.{List, [], ◌∷◌, ◌++◌, ℕ, ◌*◌, ◌-�
 use Rattle.fields.specs.Rules.{Rule, when, verdict, ne}
 use Rattle.amount.specs.Biased.{num, biased}
 use Rattle.amount.specs.declared.Amount.{Amount}
-use Rattle.events.specs.declared.Event.{Event}
+use Rattle.events.specs.declared.Fields.{Fields}
 use Rattle.events.specs.Splice.{splice, amount_bytes}
 
 -- an event's fields as numbers: yes is 1 or 0, and an amount is its value plus 2 ^ 127
@@ -17,10 +17,10 @@ pub record EventFields : Type 0 where
   pub number2 : ℕ
 
 abbrev pub no_amount : Amount
-no_amount = record { hi = pos 0; lo = 0 }
+no_amount = record { 0 = pos 0 }
 
-unfoldable pub fields_of : Event → EventFields
-fields_of e =
+unfoldable pub written_fields : Fields → EventFields
+written_fields e =
     record {
       kind = e.kind;
       first = e.first;
