@@ -1,5 +1,5 @@
 -- What an operation gives by its own rules, and what its function owes.
-use Rattle.std.specs.Prelude.{◌≡◌, List, [], ◌∷◌, ℕ, ◌+◌, ◌<◌, length, get_or}
+use Rattle.std.specs.Prelude.{◌≡◌, List, [], ◌∷◌, ℕ, ◌+◌, ◌<◌, length, get_or, Result, Ok, IfOk, IsErr, IsErrAnd}
 use Rattle.std.proofs.Common.{sym, ap, ◌∙◌, add-zero, arith}
 use Rattle.amount.specs.Biased.{bias, biased}
 use Rattle.events.specs.Event.{EventFields, event_buffer}
@@ -7,7 +7,11 @@ use Rattle.events.specs.Buffer.{length-event_buffer}
 use Rattle.record.specs.Record.{operation_of}
 use Rattle.record.specs.Form.{form_number}
 use Rattle.record.specs.Laws.{form_length, form_bytes}
-use Rattle.outcome.specs.declared.Answer.{Answer}
+use Rattle.refusal.specs.declared.Refusal.{Refusal}
+use Rattle.refusal.specs.Numbers.{number_of, code}
+use Rattle.refusal.specs.Laws.{some_number, code_passed}
+use Rattle.std.proofs.lemmas.Result.{IfOk-from_err}
+use Rattle.outcome.specs.declared.Done.{Done}
 
 -- the number, 0 when done; where it is 0, the value, the events in order and the image after it
 pub record Outcome : Type 0 where
@@ -17,49 +21,52 @@ pub record Outcome : Type 0 where
   pub image : List ℕ
 
 -- What the function of an operation owes: it runs on a copy of the image and on a blank event buffer, and may leave both changed where it refuses.
-pub record Does (o : Outcome) (a : Answer) (image events : List ℕ) : Type 0 where
-  pub numbered : a.number ≡ o.number
-  pub valued : o.number ≡ 0 → biased a.value ≡ bias + o.value
-  pub counted : o.number ≡ 0 → a.events ≡ length o.events
+pub record Does (o : Outcome) (a : Result Done Refusal) (image events : List ℕ) : Type 0 where
+  pub numbered : code a ≡ o.number
+  pub valued : IfOk a (λ d. biased d.value ≡ bias + o.value)
+  pub counted : IfOk a (λ d. d.events ≡ length o.events)
   pub changed : o.number ≡ 0 → image ≡ o.image
   pub written : o.number ≡ 0 → events ≡ event_buffer o.events
 
-module _ {o : Outcome} {a : Answer} {image events : List ℕ} where
-  pub refused : (k : ℕ) → a.number ≡ k → k ≡ o.number → (k ≡ 0 → ⊥) → Does o a image events
-  refused k e f z =
+-- a is the refusal e
+abbrev pub Refuses : {T : Type 0} → Result T Refusal → Refusal → Type 0
+Refuses a e = IsErr a × IsErrAnd a (λ y. y ≡ e)
+
+module _ {o : Outcome} {image events : List ℕ} where
+  pub refused : (e : Refusal) {a : Result Done Refusal} → Refuses a e → number_of e ≡ o.number → Does o a image events
+  refused e {a} r f =
       record {
-        numbered = e ∙ f;
-        valued = λ y. absurd (z (f ∙ y));
-        counted = λ y. absurd (z (f ∙ y));
-        changed = λ y. absurd (z (f ∙ y));
-        written = λ y. absurd (z (f ∙ y));
+        numbered = code_passed e a r ∙ f;
+        valued = IfOk-from_err a _ r.0;
+        counted = IfOk-from_err a _ r.0;
+        changed = λ y. absurd (some_number e (f ∙ y));
+        written = λ y. absurd (some_number e (f ∙ y));
       }
 
-  pub accepted : o.number ≡ 0 → a.number ≡ 0 → biased a.value ≡ bias + o.value → a.events ≡ length o.events → image ≡ o.image → events ≡ event_buffer o.events
-      → Does o a image events
-  accepted z n v c i e =
+  pub accepted : {d : Done} → o.number ≡ 0 → biased d.value ≡ bias + o.value → d.events ≡ length o.events → image ≡ o.image → events ≡ event_buffer o.events
+      → Does o (Ok d) image events
+  accepted z v c i e =
       record {
-        numbered = n ∙ sym z;
-        valued = λ y. v;
-        counted = λ y. c;
+        numbered = sym z;
+        valued = v;
+        counted = c;
         changed = λ y. i;
         written = λ y. e;
       }
 
 -- ---- an operation with no value that announces one event
-pub record Announced (e : EventFields) (a : Answer) (events : List ℕ) : Type 0 where
-  pub done : a.number ≡ 0
-  pub nothing : biased a.value ≡ bias
-  pub one : a.events ≡ 1
+pub record Announced (e : EventFields) (d : Done) (events : List ℕ) : Type 0 where
+  pub nothing : biased d.value ≡ bias
+  pub one : d.events ≡ 1
   pub written : events ≡ event_buffer (e ∷ [])
 
 -- its outcome, of a number, an event and an image
 abbrev pub announces : ℕ → EventFields → List ℕ → Outcome
 announces n e m = record { number = n; value = 0; events = e ∷ []; image = m }
 
-pub announced : {n : ℕ} {e f : EventFields} {m image events : List ℕ} {a : Answer} → n ≡ 0 → f ≡ e → Announced f a events → image ≡ m → Does (announces n e m) a image events
+pub announced : {n : ℕ} {e f : EventFields} {m image events : List ℕ} {d : Done} → n ≡ 0 → f ≡ e → Announced f d events → image ≡ m → Does (announces n e m) (Ok d) image events
 announced z p d i =
-    accepted z d.done (d.nothing ∙ sym (add-zero bias)) d.one i (d.written ∙ ap (λ (x : EventFields). event_buffer (x ∷ [])) p)
+    accepted z (d.nothing ∙ sym (add-zero bias)) d.one i (d.written ∙ ap (λ (x : EventFields). event_buffer (x ∷ [])) p)
 
 pub blank_long : {e : List ℕ} → e ≡ event_buffer [] → length e ≡ 896
 blank_long p = ap length p ∙ length-event_buffer [] (omega arith)
@@ -69,17 +76,17 @@ abbrev pub views : ℕ → ℕ → List ℕ → Outcome
 views n v l = record { number = n; value = v; events = []; image = l }
 
 -- what the function of a view owes
-pub record Views (o : Outcome) (a : Answer) : Type 0 where
-  pub numbered : a.number ≡ o.number
-  pub valued : o.number ≡ 0 → biased a.value ≡ bias + o.value
-  pub counted : o.number ≡ 0 → a.events ≡ 0
+pub record Views (o : Outcome) (a : Result Done Refusal) : Type 0 where
+  pub numbered : code a ≡ o.number
+  pub valued : IfOk a (λ d. biased d.value ≡ bias + o.value)
+  pub counted : IfOk a (λ d. d.events ≡ 0)
 
-module _ {o : Outcome} {a : Answer} where
-  pub view_refused : (k : ℕ) → a.number ≡ k → k ≡ o.number → (k ≡ 0 → ⊥) → Views o a
-  view_refused k e f z = record { numbered = e ∙ f; valued = λ y. absurd (z (f ∙ y)); counted = λ y. absurd (z (f ∙ y)) }
+module _ {o : Outcome} where
+  pub view_refused : (e : Refusal) {a : Result Done Refusal} → Refuses a e → number_of e ≡ o.number → Views o a
+  view_refused e {a} r f = record { numbered = code_passed e a r ∙ f; valued = IfOk-from_err a _ r.0; counted = IfOk-from_err a _ r.0 }
 
-  pub view_accepted : {v : ℕ} → o.number ≡ 0 → (a.number ≡ 0) × (biased a.value ≡ v) × (a.events ≡ 0) → v ≡ bias + o.value → Views o a
-  view_accepted z d e = record { numbered = d.0 ∙ sym z; valued = λ y. d.1 ∙ e; counted = λ y. d.2 }
+  pub view_accepted : {v : ℕ} {d : Done} → o.number ≡ 0 → (biased d.value ≡ v) × (d.events ≡ 0) → v ≡ bias + o.value → Views o (Ok d)
+  view_accepted z d e = record { numbered = sym z; valued = d.0 ∙ e; counted = d.1 }
 
 -- ---- a record of operation k that 32 does not refuse
 pub record Formed (k : ℕ) (r : List ℕ) : Type 0 where

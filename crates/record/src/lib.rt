@@ -3,11 +3,13 @@
 
 ghost use Rattle.std.specs.Prelude.{◌≡◌, ◌<◌, ◌≤◌, ltb, length};
 ghost use Rattle.fields.specs.Logic.{◌and◌};
+ghost use Rattle.refusal.specs.Numbers.{code};
 ghost use Rattle.amount.specs.Biased.{biased};
 ghost use Rattle.record.specs.Record.{operation_of, caller_of, token_of, other_of, flag_of, item_count_of, timestamp_of, sequence_of, signers_of, amount_of, time_to_live_of, fee_of, item_address, item_amount};
 ghost use Rattle.record.specs.Form.{reads_caller, reads_token, reads_other, reads_flag, reads_items, is_view, items_within, head_exceeds, items_exceed, form_number};
 
 use amount::Amount;
+use refusal::Refusal;
 
 pub fn operation(rec: &[u8]) -> u8
     requires { length rec.now ≡ 448 }
@@ -209,25 +211,25 @@ fn items_exceed(rec: &[u8]) -> bool
     false
 }
 
-// 32 where the record is not of good form, and 0.
-pub fn form_check(rec: &[u8]) -> u8
-    ensures { result ≡ form_number rec.now }
+// 32 where the record is not of good form.
+pub fn form_check(rec: &[u8]) -> Result<(), Refusal>
+    ensures { code result ≡ form_number rec.now }
 {
     if rec.len() != 448 {
-        return 32;
+        return Err(Refusal::InvalidRecord);
     }
     let o = operation(rec);
     if o < 1 {
-        return 32;
+        return Err(Refusal::InvalidRecord);
     }
     if o > 30 {
-        return 32;
+        return Err(Refusal::InvalidRecord);
     }
     if head_exceeds(rec) {
-        return 32;
+        return Err(Refusal::InvalidRecord);
     }
     if items_exceed(rec) {
-        return 32;
+        return Err(Refusal::InvalidRecord);
     }
-    0
+    Ok(())
 }

@@ -10,4 +10,4 @@ pub put_event-requires : goal.put_event-requires
 put_event-requires c = (blank_long c.requires, omega arith)
 
 pub returns : goal.returns
-returns c = let d = c.done.ensures in record { done = d.0; nothing = d.1; one = d.2; written = appended [] 0 c.requires refl c.put_event.ensures refl (omega arith) }
+returns c = let d = c.new.ensures in record { nothing = d.0; one = d.1; written = appended [] 0 c.requires refl c.put_event.ensures refl (omega arith) }

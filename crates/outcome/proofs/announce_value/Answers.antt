@@ -10,4 +10,4 @@ pub put_event-requires : goal.put_event-requires
 put_event-requires c = (blank_long c.requires, omega arith)
 
 pub returns : goal.returns
-returns c = (refl, refl, refl, appended [] 0 c.requires refl c.put_event.ensures refl (omega arith))
+returns c = (refl, refl, appended [] 0 c.requires refl c.put_event.ensures refl (omega arith))
