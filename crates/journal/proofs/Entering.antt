@@ -66,15 +66,15 @@ module _ (cells : ℕ) (old new j : List ℕ) (a : GoodOpen cells old new j) whe
 -- ---- the ways out
 module _ (cells : ℕ) (old new j : List ℕ) (a : GoodOpen cells old new j) where
   -- 1,000 calls would be passed
-  pub enter_calls : 1000 ≤ (contents_of j).calls → Enters cells old new j false j
+  pub enter_calls : 1000 ≤ (contents_of j).calls → Enters cells old new j 34 j
   unfolding room
   enter_calls h =
       let e : room cells old new j ≡ false = rw (lt-leb (suc (contents_of j).calls) 1000 (omega arith)) (false_and _) in
-      record { fitted = sym e; written = rw e }
+      record { fitted = rw e; written = rw e }
 
   -- more entries than there are places: those that were written are zeroed
   pub enter_full : (r : ℕ) (after : List ℕ) → Counted cells old new j r after → length j < 24 * (r + 1)
-      → Enters cells old new j false
+      → Enters cells old new j 34
       (take (24 * suc (length (contents_of j).entries)) after
       ++ (nul (24 * (length j / 24 - 1 - length (contents_of j).entries)) ++ drop (24 * suc (length j / 24 - 1)) after))
   unfolding room places entered
@@ -96,11 +96,11 @@ module _ (cells : ℕ) (old new j : List ℕ) (a : GoodOpen cells old new j) whe
       let z = zeroed (length j) p.opened p.calls n p.entries (take (P - n) more) long.0 long.1 (omega arith) in
       let t : 24 * suc n + length (nul (24 * (P - n))) ≡ 24 * suc P = rw (length-replicate {A = ℕ} (24 * (P - n)) 0) (omega arith) in
       let held : after ≡ layout (length j) p.opened p.calls n (p.entries ++ take (P - n) more) = q.written ∙ ap (layout (length j) p.opened p.calls n) cut in
-      record { fitted = sym e; written = rw e (rw (m, t, ← held) at z ∙ sym (laid_out cells j a.good)) }
+      record { fitted = rw e; written = rw e (rw (m, t, ← held) at z ∙ sym (laid_out cells j a.good)) }
 
   -- all is written, and the counts last
   pub enter-done : (r c : ℕ) (after : List ℕ) → Counted cells old new j r after → 24 * (r + 1) ≤ length j → c ≡ (contents_of j).calls → c < 1000
-      → Enters cells old new j true (put 2 (put 2 after 2 (c + 1)) 4 r)
+      → Enters cells old new j 0 (put 2 (put 2 after 2 (c + 1)) 4 r)
   unfolding room places journal_after bytes_of entered
   enter-done r c after q h ec k =
       let p = contents_of j in
@@ -113,7 +113,7 @@ module _ (cells : ℕ) (old new j : List ℕ) (a : GoodOpen cells old new j) whe
       let cut : take P (p.entries ++ more) ≡ p.entries ++ more = take_all P (p.entries ++ more) (omega arith) in
       let held : after ≡ layout (length j) p.opened p.calls (length p.entries) (p.entries ++ more) = q.written ∙ ap (layout (length j) p.opened p.calls (length p.entries)) cut in
       record {
-        fitted = sym e;
+        fitted = rw e;
         written = rw e
             (ap (λ b. put 2 (put 2 b 2 (c + 1)) 4 r) held
             ∙ counted (length j) p.calls (length p.entries) (c + 1) r p.opened (p.entries ++ more) (omega arith) (omega arith)

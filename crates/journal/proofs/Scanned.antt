@@ -193,22 +193,22 @@ zeros-drop : (b : List ℕ) (n at m : ℕ) → zeros (drop n b) at m ≡ zeros b
 unfolding zeros
 zeros-drop b n at m = rw (drop-drop at n b)
 
-module _ (j : List ℕ) (cells calls count i last next cell call : ℕ) (passed : Bool) (h : i < count) (ce : cell ≡ le 2 j (24 * (i + 1)))
-    (ca : call ≡ le 2 j (24 * (i + 1) + 2)) (pa : passed ≡ in_order_of cells calls last next cell call and zeros j (24 * (i + 1) + 4) 4) where
+module _ (j : List ℕ) (cells calls count i last next cell call : ℕ) (in_turn blank : Bool) (h : i < count) (ce : cell ≡ le 2 j (24 * (i + 1)))
+    (ca : call ≡ le 2 j (24 * (i + 1) + 2)) (pa : in_turn ≡ in_order_of cells calls last next cell call) (pb : blank ≡ zeros j (24 * (i + 1) + 4) 4) where
   turn : scan_entries cells calls (count - i) last next (drop (24 * suc i) j)
-      ≡ passed and scan_entries cells calls (count - (i + 1)) call (cell + 1) (drop (24 * suc (i + 1)) j)
+      ≡ (in_turn and blank) and scan_entries cells calls (count - (i + 1)) call (cell + 1) (drop (24 * suc (i + 1)) j)
   unfolding scan_entries
   turn =
       let n : count - i ≡ suc (count - (i + 1)) = omega arith in
       let a : 24 * suc i ≡ 24 * (i + 1) = omega arith in
       let z : 24 * (i + 1) + 0 ≡ 24 * (i + 1) = omega arith in
       let m : 24 * (i + 1) + 24 ≡ 24 * suc (i + 1) = omega arith in
-      rw (n, a, le-drop 2 j (24 * (i + 1)) 0, le-drop 2 j (24 * (i + 1)) 2, zeros-drop j (24 * (i + 1)) 4 4, drop-drop 24 (24 * (i + 1)) j, z, m, ← ce, ← ca, ← pa, add-one cell)
+      rw (n, a, le-drop 2 j (24 * (i + 1)) 0, le-drop 2 j (24 * (i + 1)) 2, zeros-drop j (24 * (i + 1)) 4 4, drop-drop 24 (24 * (i + 1)) j, z, m, ← ce, ← ca, ← pa, ← pb, add-one cell)
 
-  pub turn_stops : passed ≡ false → false ≡ scan_entries cells calls (count - i) last next (drop (24 * suc i) j)
+  pub turn_stops : in_turn and blank ≡ false → false ≡ scan_entries cells calls (count - i) last next (drop (24 * suc i) j)
   turn_stops e = sym (turn ∙ rw e (false_and _))
 
-  pub turn_goes : passed ≡ true
+  pub turn_goes : in_turn and blank ≡ true
       → scan_entries cells calls (count - (i + 1)) call (cell + 1) (drop (24 * suc (i + 1)) j) ≡ scan_entries cells calls (count - i) last next (drop (24 * suc i) j)
   turn_goes e = sym (turn ∙ rw e (true_and _))
 

@@ -1,5 +1,5 @@
 -- The changed cells of an image in parts, and their entries written into places one part behind the other.
-use mathlib.Core.Path.{◌≡◌, refl, sym, ap, ◌∙◌}
+use mathlib.Core.Path.{◌≡◌, refl, sym, ap, ap₂, ◌∙◌}
 use mathlib.Core.Logic.{inr}
 use mathlib.Core.Bool.{Bool, true, false}
 use mathlib.Core.List.{List, [], ◌∷◌, ◌++◌, append_assoc, append-nil}
@@ -8,7 +8,7 @@ use native.Mathlib.Nat.{zero-add, add-zero, suc-add}
 use native.Mathlib.Omega.{arith}
 use lib.Dec.{eqb, leb}
 use lib.ListN.{length, get_or, take, drop, length-append, length-take, length-drop, take-append-drop, drop_of_length-le}
-use lib.Seq.{take_all, take_at, drop_at, take-take, take-append-le, take-append-add, take-add, take-nil, drop-drop}
+use lib.Seq.{take_all, take_at, drop_at, take-take, take-append-le, take-append-add, take-nil, drop-drop}
 use borrow.Author.Tests.{leb-true, leb-false, le-leb}
 use Rattle.fields.specs.Bytes.{le}
 use Rattle.fields.specs.Logic.{◌and◌}
@@ -22,25 +22,15 @@ use Rattle.journal.proofs.Cells.{changed_order}
 use Rattle.journal.proofs.Backwards.{order_front}
 use Rattle.journal.proofs.Layouts.{entries_append}
 
--- ---- two words of each image
-pub two_words : (a b : List ℕ) (at x y u v : ℕ) → ((i : ℕ) → get_or a i 0 < 256) → ((i : ℕ) → get_or b i 0 < 256) → at + 16 ≤ length a → at + 16 ≤ length b
-    → x ≡ le 8 a at → y ≡ le 8 b at → u ≡ le 8 a (at + 8) → v ≡ le 8 b (at + 8)
-    → eqb x y and eqb u v ≡ same_bytes_of (take 16 (drop at a)) (take 16 (drop at b))
-two_words a b at x y u v ha hb la lb ex ey eu ev =
-    let l : length (take 8 (drop at a)) ≡ length (take 8 (drop at b)) = simp (length-take, length-drop) (omega arith) in
-    rw (
-      ex,
-      ey,
-      eu,
-      ev,
-      take-add 8 8 (drop at a),
-      take-add 8 8 (drop at b),
-      drop-drop 8 at a,
-      drop-drop 8 at b,
-      same-append (take 8 (drop at a)) (take 8 (drop at b)) (take 8 (drop (at + 8) a)) (take 8 (drop (at + 8) b)) l,
-      le_same 8 a b at ha hb (omega arith) (omega arith),
-      le_same 8 a b (at + 8) ha hb (omega arith) (omega arith),
-    )
+-- ---- two words of each cell
+pub two_words : (a b : List ℕ) → ((i : ℕ) → get_or a i 0 < 256) → ((i : ℕ) → get_or b i 0 < 256) → length a ≡ 16 → length b ≡ 16
+    → eqb (le 8 a 0) (le 8 b 0) and eqb (le 8 a 8) (le 8 b 8) ≡ same_bytes_of a b
+two_words a b ha hb la lb =
+    let l : length (take 8 a) ≡ length (take 8 b) = simp length-take (omega arith) in
+    let ta : take 8 (drop 8 a) ≡ drop 8 a = take_all 8 (drop 8 a) (simp length-drop (omega arith)) in
+    let tb : take 8 (drop 8 b) ≡ drop 8 b = take_all 8 (drop 8 b) (simp length-drop (omega arith)) in
+    rw (le_same 8 a b 0 ha hb (omega arith) (omega arith), le_same 8 a b 8 ha hb (omega arith) (omega arith), ta, tb)
+    (sym (same-append (take 8 a) (take 8 b) (drop 8 a) (drop 8 b) l) ∙ ap₂ same_bytes_of (take-append-drop 8 a) (take-append-drop 8 b))
 
 -- ---- the changed cells
 -- of m cells and of n cells behind them

@@ -1,6 +1,8 @@
 -- What the functions that write an image or a journal are asked, and what their parts leave.
 use Rattle.std.specs.Prelude.{◌≡◌, Bool, true, List, ◌++◌, ℕ, ◌+◌, ◌*◌, ◌-◌, ◌/◌, ◌≤◌, ◌<◌, leb, length, take, drop}
+use Rattle.std.specs.Borrow.{Bor}
 use Rattle.fields.specs.Rules.{pick}
+use Rattle.fields.specs.Same.{same_bytes_of}
 use Rattle.journal.specs.Journal.{Entry, entries_bytes, contents_of, good_journal, layout, changed, of_call, except_call, entered, room, journal_after}
 use Rattle.journal.specs.Changed.{ChangedCells, numbers}
 
@@ -22,9 +24,9 @@ pub record GoodOpen (cells : ℕ) (old new journal : List ℕ) : Type 0 where
   pub good : good_journal cells journal ≡ true
   pub opened : (contents_of journal).opened ≡ true
 
--- what `enter` leaves: whether there was room, and the journal, which is as it was where there was none
-pub record Enters (cells : ℕ) (old new journal : List ℕ) (r : Bool) (after : List ℕ) : Type 0 where
-  pub fitted : r ≡ room cells old new journal
+-- what `enter` leaves: 34 where there was no room, and the journal, which is as it was where there was none
+pub record Enters (cells : ℕ) (old new journal : List ℕ) (r : ℕ) (after : List ℕ) : Type 0 where
+  pub fitted : r ≡ pick (room cells old new journal) 0 34
   pub written : after ≡ pick (room cells old new journal) (journal_after cells old new journal) journal
 
 -- r entries are of earlier calls, and those behind them of the last
@@ -58,6 +60,11 @@ place_at n len = pick (leb (24 * n) len) (24 * n) len
 -- entries in places of 24 bytes from the first on, as many as there are places; the bytes behind them stay
 unfoldable pub over : (places : List ℕ) → List Entry → List ℕ
 over b es = entries_bytes (take (length b / 24) es) ++ drop (24 * length (take (length b / 24) es)) b
+
+-- a comparison that may be asked of any two cells, and says whether their bytes are the same
+pub record Compares (may : Bor (List ℕ) → Bor (List ℕ) → Type 0) (says : Bor (List ℕ) → Bor (List ℕ) → Bool → Type 0) : Type 0 where
+  pub asked : (a b : Bor (List ℕ)) → length a.now ≡ 16 → length b.now ≡ 16 → may a b
+  pub told : {a b : Bor (List ℕ)} {r : Bool} → says a b r → length a.now ≡ 16 → length b.now ≡ 16 → r ≡ same_bytes_of a.now b.now
 
 -- the changed cells: all of them counted, and their entries written as far as there are places
 pub record Found (cells first call : ℕ) (old new places : List ℕ) (r : ℕ) (after : List ℕ) : Type 0 where

@@ -7,14 +7,31 @@ ghost use Rattle.fields.specs.Same.{same_bytes_of};
 ghost use Rattle.journal.specs.Journal.{contents_of, good_journal, fits, entry_bytes, restore};
 ghost use Rattle.journal.specs.Scan.{in_order_of, scan_head, scan_entries};
 ghost use Rattle.journal.specs.Step.{vault, reply, begun, committed, rolled_back, undone};
-ghost use Rattle.journal.specs.Parts.{GoodJournal, GoodOver, GoodOpen, Enters, Earlier, Counted, Cells, place_at, Found, Finds};
+ghost use Rattle.journal.specs.Parts.{GoodJournal, GoodOver, GoodOpen, Enters, Earlier, Counted, Cells, Compares, place_at, Found, Finds};
+ghost use Rattle.refusal.specs.Numbers.{code};
 
-use fields::{both, either};
+use refusal::Refusal;
 
-fn wide(x: u16) -> usize
-    ensures { (result ≡ x) × (result < 65536) }
-{
-    x as usize
+// The numbers of a head: the calls and the entries that it counts.
+#[derive(Clone, Copy)]
+struct Counts {
+    calls: usize,
+    entries: usize,
+}
+
+// The numbers of an entry: its cell, and the call that changed it.
+#[derive(Clone, Copy, Debug, PartialEq, Eq)]
+pub struct EntryHead {
+    pub cell: usize,
+    pub call: usize,
+}
+
+// Cells that stand side by side, the number of the first of them, and the call that they are entered for.
+#[derive(Clone, Copy, Debug, PartialEq, Eq)]
+pub struct Span {
+    pub cells: usize,
+    pub first: usize,
+    pub call: usize,
 }
 
 // The two-byte number at a place.
@@ -22,13 +39,35 @@ fn number_at(journal: &[u8], at: usize) -> usize
     requires { at + 2 ≤ length journal.now }
     ensures { (result ≡ le 2 journal.now at) × (result < 65536) }
 {
-    wide(fields::get16(journal, at))
+    usize::from(fields::get16(journal, at))
+}
+
+fn read_counts(journal: &[u8]) -> Counts
+    requires { 24 ≤ length journal.now }
+    ensures calls { (result.calls ≡ le 2 journal.now 2) × (result.calls < 65536) }
+    ensures entries { (result.entries ≡ le 2 journal.now 4) × (result.entries < 65536) }
+{
+    Counts {
+        calls: number_at(journal, 2),
+        entries: number_at(journal, 4),
+    }
+}
+
+fn read_entry_head(journal: &[u8], at: usize) -> EntryHead
+    requires { at + 4 ≤ length journal.now }
+    ensures cell { (result.cell ≡ le 2 journal.now at) × (result.cell < 65536) }
+    ensures call { (result.call ≡ le 2 journal.now (at + 2)) × (result.call < 65536) }
+{
+    EntryHead {
+        cell: number_at(journal, at),
+        call: number_at(journal, at + 2),
+    }
 }
 
 fn good_length(len: usize) -> bool
     ensures { result ≡ fits len }
 {
-    both(len % 24 == 0, both(48 <= len, len <= 48024))
+    len % 24 == 0 && 48 <= len && len <= 48024
 }
 
 // Counts, the open byte and the unused bytes of the head.
@@ -36,98 +75,78 @@ fn good_head(journal: &[u8]) -> bool
     requires { 24 ≤ length journal.now }
     ensures { result ≡ scan_head journal.now }
 {
-    let open = journal[0];
-    let unused = journal[1];
-    let calls = number_at(journal, 2);
-    let count = number_at(journal, 4);
-    let counted = both(calls <= 1000, 24 * (count + 1) <= journal.len());
-    let zeros = fields::are_zero(journal, 6, 18);
-    let filled = both(open <= 1, both(unused == 0, zeros));
-    let closed = either(open == 1, both(calls == 0, count == 0));
-    both(counted, both(filled, closed))
+    let counts = read_counts(journal);
+    let is_open = journal[0] == 1;
+    let counted = counts.calls <= 1000 && 24 * (counts.entries + 1) <= journal.len();
+    let filled = journal[0] <= 1 && journal[1] == 0 && fields::are_zero(journal, 6, 18);
+    let closed = is_open || counts.calls == 0 && counts.entries == 0;
+    counted && filled && closed
 }
 
 // Whether an entry may stand behind one of call `last` whose next cell would be `next`.
-fn in_order(cells: usize, calls: usize, last: usize, next: usize, cell: usize, call: usize) -> bool
-    ensures { result ≡ in_order_of cells calls last next cell call }
+fn in_order(entry: EntryHead, cells: usize, calls: usize, last: usize, next: usize) -> bool
+    ensures { result ≡ in_order_of cells calls last next entry.cell entry.call }
 {
-    let ascends = either(last < call, next <= cell);
-    both(
-        1 <= call,
-        both(
-            call <= calls,
-            both(last <= call, both(cell < cells, ascends)),
-        ),
-    )
+    let ascends = last < entry.call || next <= entry.cell;
+    1 <= entry.call && entry.call <= calls && last <= entry.call && entry.cell < cells && ascends
 }
 
-// Whether `count` entries in order, and then zeros, stand behind the head.
-fn good_entries(journal: &[u8], cells: usize, calls: usize, count: usize) -> bool
-    requires { 24 * suc count ≤ length journal.now }
-    ensures { result ≡ scan_entries cells calls count 0 0 (drop 24 journal.now) }
+// Whether so many entries in order, and then zeros, stand behind the head.
+fn good_entries(journal: &[u8], cells: usize, counts: Counts) -> bool
+    requires { 24 * suc counts.entries ≤ length journal.now }
+    ensures { result ≡ scan_entries cells counts.calls counts.entries 0 0 (drop 24 journal.now) }
 {
-    let mut i = 0;
-    let mut last: usize = 0;
-    let mut next: usize = 0;
-    while i < count {
-        i += 1;
-        let at = 24 * i;
-        let cell = number_at(journal, at);
-        let call = number_at(journal, at + 2);
-        let ordered = in_order(cells, calls, last, next, cell, call);
-        if !both(ordered, fields::are_zero(journal, at + 4, 4)) {
+    let mut last = 0;
+    let mut next = 0;
+    for n in 0..counts.entries {
+        let at = 24 * (n + 1);
+        let entry = read_entry_head(journal, at);
+        let ordered = in_order(entry, cells, counts.calls, last, next);
+        if !(ordered && fields::are_zero(journal, at + 4, 4)) {
             return false;
         }
-        last = call;
-        next = cell + 1;
+        last = entry.call;
+        next = entry.cell + 1;
     }
-    let end = 24 * (count + 1);
+    let end = 24 * (counts.entries + 1);
     fields::are_zero(journal, end, journal.len() - end)
 }
 
 pub fn good_journal(journal: &[u8], cells: usize) -> bool
     ensures { result ≡ good_journal cells journal.now }
 {
-    if !good_length(journal.len()) {
-        return false;
-    }
-    if !good_head(journal) {
-        return false;
-    }
-    good_entries(journal, cells, number_at(journal, 2), number_at(journal, 4))
+    good_length(journal.len())
+        && good_head(journal)
+        && good_entries(journal, cells, read_counts(journal))
 }
 
+#[tactic(auto, unfolding(crate::specs::Journal::contents_of))]
 pub fn is_open(journal: &[u8]) -> bool
     ensures { result ≡ (contents_of journal.now).opened }
 {
-    if journal.len() == 0 {
-        return false;
-    }
-    journal[0] == 1
+    journal.first() == Some(&1)
 }
 
-// 36 already open.
-pub fn begin(journal: &mut [u8]) -> u8
+pub fn begin(journal: &mut [u8]) -> Result<(), Refusal>
     requires { GoodJournal journal.old }
-    ensures { (x : List ℕ) → reply result [] (vault x journal.new) ≡ begun (vault x journal.old) }
+    ensures { (x : List ℕ) → reply (code result) [] (vault x journal.new) ≡ begun (vault x journal.old) }
 {
     if is_open(journal) {
-        return 36;
+        return Err(Refusal::TransactionOpen);
     }
     journal[0] = 1;
-    0
+    Ok(())
 }
 
-// 35 none open.
-pub fn commit(journal: &mut [u8]) -> u8
+pub fn commit(journal: &mut [u8]) -> Result<(), Refusal>
     requires { GoodJournal journal.old }
-    ensures { (x : List ℕ) → reply result [] (vault x journal.new) ≡ committed (vault x journal.old) }
+    ensures { (x : List ℕ) → reply (code result) [] (vault x journal.new) ≡ committed (vault x journal.old) }
 {
     if !is_open(journal) {
-        return 35;
+        return Err(Refusal::NoTransaction);
     }
-    fields::clear(journal);
-    0
+    journal.fill(0);
+    Ok(())
 }
 
 // Puts the entries behind the first `from` back into the image, the last one first.
@@ -136,32 +155,25 @@ fn put_back(image: &mut [u8], journal: &[u8], cells: usize, from: usize, count: 
     requires from_le_count { (from ≤ count) × (count ≡ length (contents_of journal.now).entries) }
     ensures { image.new ≡ restore (drop from (contents_of journal.now).entries) image.old }
 {
-    let mut k = count;
-    while k > from {
-        let at = 24 * k;
+    for n in (from..count).rev() {
+        let at = 24 * (n + 1);
         let lo = 16 * number_at(journal, at);
-        let hi = lo + 16;
-        let old = at + 8;
-        let end = at + 24;
-        fields::copy_bytes(&journal[old..end], &mut image[lo..hi]);
-        k -= 1;
+        image[lo..lo + 16].copy_from_slice(&journal[at + 8..at + 24]);
     }
 }
 
 // How many entries are of calls before the last.
-fn earlier_entries(journal: &[u8], calls: usize, count: usize) -> usize
+fn earlier_entries(journal: &[u8], counts: Counts) -> usize
     requires good_journal { GoodJournal journal.now }
-    requires calls_value { (calls ≡ (contents_of journal.now).calls) × (count ≡ length (contents_of journal.now).entries) }
-    ensures { Earlier calls (contents_of journal.now).entries result }
+    requires calls_value { (counts.calls ≡ (contents_of journal.now).calls) × (counts.entries ≡ length (contents_of journal.now).entries) }
+    ensures { Earlier counts.calls (contents_of journal.now).entries result }
 {
-    let mut k = count;
-    while k > 0 {
-        if number_at(journal, 24 * k + 2) != calls {
-            return k;
+    for n in (0..counts.entries).rev() {
+        if number_at(journal, 24 * (n + 1) + 2) != counts.calls {
+            return n + 1;
         }
-        k -= 1;
     }
-    k
+    0
 }
 
 // Zeroes the entries behind the first `from`, up to the first `to`.
@@ -169,110 +181,109 @@ fn clear_entries(journal: &mut [u8], from: usize, to: usize)
     requires { (from ≤ to) × (24 * suc to ≤ length journal.old) }
     ensures { journal.new ≡ take (24 * suc from) journal.old ++ (replicate (24 * (to - from)) 0 ++ drop (24 * suc to) journal.old) }
 {
-    let at = 24 * (from + 1);
-    let end = 24 * (to + 1);
-    fields::clear(&mut journal[at..end]);
+    journal[24 * (from + 1)..24 * (to + 1)].fill(0);
 }
 
-fn write_counts(journal: &mut [u8], calls: usize, count: usize)
-    requires { (6 ≤ length journal.old) × (calls < 65536) × (count < 65536) }
-    ensures { journal.new ≡ put 2 (put 2 journal.old 2 calls) 4 count }
+fn write_counts(journal: &mut [u8], counts: Counts)
+    requires { (6 ≤ length journal.old) × (counts.calls < 65536) × (counts.entries < 65536) }
+    ensures { journal.new ≡ put 2 (put 2 journal.old 2 counts.calls) 4 counts.entries }
 {
-    fields::put16(journal, 2, calls as u16);
-    fields::put16(journal, 4, count as u16);
+    fields::put16(journal, 2, counts.calls as u16);
+    fields::put16(journal, 4, counts.entries as u16);
 }
 
-// 35 none open.
-pub fn rollback(image: &mut [u8], journal: &mut [u8], cells: usize) -> u8
+pub fn rollback(image: &mut [u8], journal: &mut [u8], cells: usize) -> Result<(), Refusal>
     requires { GoodOver cells image.old journal.old }
-    ensures { reply result [] (vault image.new journal.new) ≡ rolled_back (vault image.old journal.old) }
+    ensures { reply (code result) [] (vault image.new journal.new) ≡ rolled_back (vault image.old journal.old) }
 {
     if !is_open(journal) {
-        return 35;
+        return Err(Refusal::NoTransaction);
     }
-    put_back(image, journal, cells, 0, number_at(journal, 4));
-    fields::clear(journal);
-    0
+    let counts = read_counts(journal);
+    put_back(image, journal, cells, 0, counts.entries);
+    journal.fill(0);
+    Ok(())
 }
 
-// 35 none open; 37 no call.
-pub fn undo(image: &mut [u8], journal: &mut [u8], cells: usize) -> u8
+pub fn undo(image: &mut [u8], journal: &mut [u8], cells: usize) -> Result<(), Refusal>
     requires { GoodOver cells image.old journal.old }
-    ensures { reply result [] (vault image.new journal.new) ≡ undone (vault image.old journal.old) }
+    ensures { reply (code result) [] (vault image.new journal.new) ≡ undone (vault image.old journal.old) }
 {
     if !is_open(journal) {
-        return 35;
+        return Err(Refusal::NoTransaction);
     }
-    let calls = number_at(journal, 2);
-    if calls == 0 {
-        return 37;
+    let counts = read_counts(journal);
+    if counts.calls == 0 {
+        return Err(Refusal::NothingToUndo);
     }
-    let count = number_at(journal, 4);
-    let left = earlier_entries(journal, calls, count);
-    put_back(image, journal, cells, left, count);
-    clear_entries(journal, left, count);
-    write_counts(journal, calls - 1, left);
-    0
+    let left = earlier_entries(journal, counts);
+    put_back(image, journal, cells, left, counts.entries);
+    clear_entries(journal, left, counts.entries);
+    write_counts(
+        journal,
+        Counts {
+            calls: counts.calls - 1,
+            entries: left,
+        },
+    );
+    Ok(())
 }
 
-pub fn put_entry(part: &mut [u8], cell: usize, call: usize, old: &[u8])
-    requires { (length part.old ≡ 24) × (length old.now ≡ 16) × (cell < 65536) × (call < 65536) }
-    ensures { part.new ≡ entry_bytes (record { cell = cell; call = call; old = old.now }) }
+pub fn put_entry(part: &mut [u8], head: EntryHead, old: &[u8])
+    requires { (length part.old ≡ 24) × (length old.now ≡ 16) × (head.cell < 65536) × (head.call < 65536) }
+    ensures { part.new ≡ entry_bytes (record { cell = head.cell; call = head.call; old = old.now }) }
 {
-    let mut entry = [0u8; 24];
-    entry[0] = (cell % 256) as u8;
-    entry[1] = (cell / 256) as u8;
-    entry[2] = (call % 256) as u8;
-    entry[3] = (call / 256) as u8;
-    fields::copy_bytes(old, &mut entry[8..24]);
-    fields::copy_bytes(&entry, part);
+    part[0..2].copy_from_slice(&(head.cell as u16).to_le_bytes());
+    part[2..4].copy_from_slice(&(head.call as u16).to_le_bytes());
+    part[4..8].fill(0);
+    part[8..24].copy_from_slice(old);
 }
 
 // The byte at which entry n stands, or the end where there is no place for it.
+#[tactic(auto, unfolding(crate::specs::Parts::place_at))]
 fn place_at(n: usize, len: usize) -> usize
     requires { n ≤ 65536 }
     ensures { (result ≡ place_at n len) × (result ≤ len) }
 {
-    let at = 24 * n;
-    if at <= len { at } else { len }
+    len.min(24 * n)
 }
 
-// Whether two images have the same two words in the cell at byte `at`.
-fn same_cell(old: &[u8], new: &[u8], at: usize) -> bool
-    requires { (at + 16 ≤ length old.now) × (at + 16 ≤ length new.now) }
-    ensures { result ≡ same_bytes_of (take 16 (drop at old.now)) (take 16 (drop at new.now)) }
+// Whether two cells have the same two words.
+fn same_cell(old: &[u8], new: &[u8]) -> bool
+    requires { (length old.now ≡ 16) × (length new.now ≡ 16) }
+    ensures { result ≡ same_bytes_of old.now new.now }
 {
-    let next = at + 8;
-    let low = fields::get64(old, at) == fields::get64(new, at);
-    let high = fields::get64(old, next) == fields::get64(new, next);
-    both(low, high)
+    let low = fields::get64(old, 0) == fields::get64(new, 0);
+    let high = fields::get64(old, 8) == fields::get64(new, 8);
+    low && high
 }
 
-// Writes an entry for each cell that changed, as far as there are places, and counts them all. The first cell has the number `first`.
-fn enter_stretch(
+// Writes an entry for each cell that changed, as far as there are places, and counts them all. `same` tells whether two cells are the same.
+pub fn enter_span<F: Fn(&[u8], &[u8]) -> bool>(
     old: &[u8],
     new: &[u8],
     places: &mut [u8],
-    cells: usize,
-    first: usize,
-    call: usize,
+    span: Span,
+    same: F,
 ) -> usize
-    requires { Cells cells first call old.now new.now }
-    ensures { Found cells first call old.now new.now places.old result places.new }
+    requires cells { Cells span.cells span.first span.call old.now new.now }
+    requires compares { Compares (F.pre same) (F.post same) }
+    ensures { Found span.cells span.first span.call old.now new.now places.old result places.new }
 {
     let mut n = 0;
-    let mut k = 0;
-    while k < cells {
-        let cell = k;
-        k += 1;
+    for cell in 0..span.cells {
         let lo = 16 * cell;
         let hi = lo + 16;
-        if !same_cell(old, new, lo) {
+        if !same(&old[lo..hi], &new[lo..hi]) {
             let at = 24 * n;
             let end = at + 24;
             n += 1;
             if end <= places.len() {
-                put_entry(&mut places[at..end], first + cell, call, &old[lo..hi]);
+                let head = EntryHead {
+                    cell: span.first + cell,
+                    call: span.call,
+                };
+                put_entry(&mut places[at..end], head, &old[lo..hi]);
             }
         }
     }
@@ -285,42 +296,47 @@ const STRETCH: usize = 16;
 // The bytes of so many cells.
 const STRETCH_BYTES: usize = 256;
 
-// `enter_stretch` of a whole image, stretch by stretch; one that is the same in both images is passed over.
+// `enter_span` of a whole image, stretch by stretch; one that is the same in both images is passed over.
 pub fn enter_cells(old: &[u8], new: &[u8], places: &mut [u8], cells: usize, call: usize) -> usize
     requires { Cells cells 0 call old.now new.now }
     ensures { Finds cells call old.now new.now places.old result places.new }
 {
     let mut n = 0;
-    let mut k = 0;
-    while k + STRETCH <= cells {
-        let first = k;
-        k += STRETCH;
+    for stretch in 0..cells / STRETCH {
+        let first = STRETCH * stretch;
         let from = 16 * first;
         let to = from + STRETCH_BYTES;
         if !fields::same_words(&old[from..to], &new[from..to]) {
             let at = place_at(n, places.len());
-            let more = enter_stretch(
+            let span = Span {
+                cells: STRETCH,
+                first,
+                call,
+            };
+            n += enter_span(
                 &old[from..to],
                 &new[from..to],
                 &mut places[at..],
-                STRETCH,
-                first,
-                call,
+                span,
+                same_cell,
             );
-            n += more;
         }
     }
-    let from = 16 * k;
+    let first = STRETCH * (cells / STRETCH);
+    let from = 16 * first;
     let at = place_at(n, places.len());
-    let more = enter_stretch(
+    let span = Span {
+        cells: cells - first,
+        first,
+        call,
+    };
+    n + enter_span(
         &old[from..],
         &new[from..],
         &mut places[at..],
-        cells - k,
-        k,
-        call,
-    );
-    n + more
+        span,
+        same_cell,
+    )
 }
 
 // The changed cells behind the entries that are there: written as far as there are places, and all entries counted.
@@ -341,22 +357,22 @@ fn enter_behind(
     count + more
 }
 
-// Enters an operation that changed the image from `old` to `new`; false is 34, and the journal stays as it is.
-pub fn enter(old: &[u8], new: &[u8], journal: &mut [u8], cells: usize) -> bool
+// Enters an operation that changed the image from `old` to `new`; where it is refused, the journal stays as it is.
+pub fn enter(old: &[u8], new: &[u8], journal: &mut [u8], cells: usize) -> Result<(), Refusal>
     requires { GoodOpen cells old.now new.now journal.old }
-    ensures { Enters cells old.now new.now journal.old result journal.new }
+    ensures { Enters cells old.now new.now journal.old (code result) journal.new }
 {
-    let calls = number_at(journal, 2);
-    if calls >= 1000 {
-        return false;
+    let counts = read_counts(journal);
+    if counts.calls >= 1000 {
+        return Err(Refusal::JournalFull);
     }
-    let count = number_at(journal, 4);
-    let all = enter_behind(old, new, journal, cells, calls + 1, count);
+    let calls = counts.calls + 1;
+    let entries = enter_behind(old, new, journal, cells, calls, counts.entries);
     let len = journal.len();
-    if 24 * (all + 1) > len {
-        clear_entries(journal, count, len / 24 - 1);
-        return false;
+    if 24 * (entries + 1) > len {
+        clear_entries(journal, counts.entries, len / 24 - 1);
+        return Err(Refusal::JournalFull);
     }
-    write_counts(journal, calls + 1, all);
-    true
+    write_counts(journal, Counts { calls, entries });
+    Ok(())
 }

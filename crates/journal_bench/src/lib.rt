@@ -4,37 +4,9 @@
 ghost use Rattle.std.specs.Prelude.{◌≡◌};
 ghost use Rattle.fields.specs.Rules.{pick};
 ghost use Rattle.journal.specs.Journal.{good_journal};
-ghost use Rattle.journal.specs.Parts.{Cells, Finds};
+ghost use Rattle.journal.specs.Parts.{Finds};
 
-// As `journal::enter_cells`, a byte at a time.
-fn enter_cells_by_bytes(
-    old: &[u8],
-    new: &[u8],
-    places: &mut [u8],
-    cells: usize,
-    call: usize,
-) -> usize
-    requires { Cells cells 0 call old.now new.now }
-    ensures { Finds cells call old.now new.now places.old result places.new }
-{
-    let mut n = 0;
-    let mut k = 0;
-    while k < cells {
-        let cell = k;
-        k += 1;
-        let lo = 16 * cell;
-        let hi = lo + 16;
-        if !fields::same_bytes(&old[lo..hi], &new[lo..hi]) {
-            let at = 24 * n;
-            let end = at + 24;
-            n += 1;
-            if end <= places.len() {
-                journal::put_entry(&mut places[at..end], cell, call, &old[lo..hi]);
-            }
-        }
-    }
-    n
-}
+use journal::Span;
 
 // The number of changed cells of two images; their entries, of call 1, as far as there are places.
 #[unsafe(no_mangle)]
@@ -57,7 +29,13 @@ pub extern "C" fn journal_bench_by_bytes(
 ) -> u32
     ensures { Finds 2302 1 old.now new.now places.old result places.new }
 {
-    enter_cells_by_bytes(old, new, places, 2302, 1) as u32
+    let span = Span {
+        cells: 2302,
+        first: 0,
+        call: 1,
+    };
+    let changed = journal::enter_span(old, new, places, span, fields::same_bytes);
+    changed as u32
 }
 
 // 1 for a good journal, and else 0.
@@ -65,9 +43,5 @@ pub extern "C" fn journal_bench_by_bytes(
 pub extern "C" fn journal_bench_good(journal: &[u8]) -> u32
     ensures { result ≡ pick (good_journal 2302 journal.now) 1 0 }
 {
-    if journal::good_journal(journal, 2302) {
-        1
-    } else {
-        0
-    }
+    u32::from(journal::good_journal(journal, 2302))
 }

@@ -1,8 +1,14 @@
 -- `journal::good_head`: the tests, joined as in the definition.
-use native.Mathlib.Numerals.{add-one}
+use Rattle.std.proofs.Common.{arith}
+use Rattle.std.proofs.lemmas.Bool.Decides.{nat_tests}
+use Rattle.fields.specs.Logic.{◌and◌, ◌or◌}
 use Rattle.journal.specs.Scan.{scan_head}
 use Rattle.journal.proofs.good_head.Goals as goal
 
-pub returns : goal.returns
-unfolding scan_head
-returns c = rw (c.both-4.ensures, c.both-3.ensures, c.either-closed.ensures, c.both-2.ensures, c.both-filled.ensures, c.both.ensures, c.are_zero-zeros.ensures, c.both-counted.ensures, c.number_at-count.ensures.0, c.number_at-calls.ensures.0, add-one)
+pub returns-then-filled : goal.returns-then-filled
+unfolding scan_head ◌and◌ ◌or◌
+returns-then-filled c = grind (arith, nat_tests)
+
+pub returns-else-filled : goal.returns-else-filled
+unfolding scan_head ◌and◌ ◌or◌
+returns-else-filled c = grind (arith, nat_tests)

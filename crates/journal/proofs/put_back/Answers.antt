@@ -1,64 +1,50 @@
--- `journal::put_back`: with k entries left, those behind them are put back.
-use mathlib.Core.Path.{refl, ap, ◌∙◌}
-use Prim.Native.Nat.{◌+◌, ◌*◌, ◌-◌}
-use native.Mathlib.Nat.{le_antisymm}
+-- `journal::put_back`: with n entries left, those behind them are put back.
+use mathlib.Core.Path.{◌≡◌, ap}
+use Prim.Native.Nat.{◌+◌, ◌*◌, ◌-◌, ◌≤◌}
 use native.Mathlib.Omega.{arith}
+use lib.ListN.{length}
 use lib.Seq.{drop-length}
-use borrow.Rule.Slice.PartMut.{same_len_mid}
 use Rattle.journal.proofs.Backwards.{in_journal, in_image, put_turn}
 use Rattle.journal.specs.Journal.{contents_of, restore}
 use Rattle.journal.proofs.put_back.Goals as goal
 
-pub loop-k-init : goal.loop-k-init
+pub loop-n-init : goal.loop-n-init
 unfolding restore
-loop-k-init c =
-    let a = c.args in
-    (omega arith, omega arith, refl, rw (c.requires.from_le_count.1, drop-length (contents_of a.journal.now).entries))
+loop-n-init c = (omega arith, rw (c.requires.from_le_count.1, drop-length (contents_of c.args.journal.now).entries))
+
+-- the entry that the turn puts back
+within : (c : goal.In-loop-n) → 24 * c.loop-n.n + 24 ≤ length c.args.journal.now
+within c = in_journal c.args.cells c.args.journal.now c.requires.good_over.good c.loop-n.n (omega arith) (omega arith)
 
 pub overflow_mul-at : goal.overflow_mul-at
-overflow_mul-at c =
-    let w = in_journal c.args.cells c.args.journal.now c.requires.good_over.good c.loop-k.k (omega arith) (omega arith) in
-    omega arith
+overflow_mul-at c = let w = within c in omega arith
 
 pub number_at-lo-requires : goal.number_at-lo-requires
-number_at-lo-requires c =
-    let w = in_journal c.args.cells c.args.journal.now c.requires.good_over.good c.loop-k.k (omega arith) (omega arith) in
-    omega arith
+number_at-lo-requires c = let w = within c in omega arith
 
-pub overflow_add-old : goal.overflow_add-old
-overflow_add-old c =
-    let w = in_journal c.args.cells c.args.journal.now c.requires.good_over.good c.loop-k.k (omega arith) (omega arith) in
-    omega arith
-
-pub overflow_add-end : goal.overflow_add-end
-overflow_add-end c =
-    let w = in_journal c.args.cells c.args.journal.now c.requires.good_over.good c.loop-k.k (omega arith) (omega arith) in
-    omega arith
-
-pub slice_bounds-copy_bytes-end : goal.slice_bounds-copy_bytes-end
-slice_bounds-copy_bytes-end c =
-    let w = in_journal c.args.cells c.args.journal.now c.requires.good_over.good c.loop-k.k (omega arith) (omega arith) in
-    omega arith
-
-pub slice_bounds-copy_bytes-end-in-loop-k : goal.slice_bounds-copy_bytes-end-in-loop-k
-slice_bounds-copy_bytes-end-in-loop-k c =
-    let w = in_image c.args.cells c.args.journal.now c.requires.good_over.good c.loop-k.k (omega arith) (omega arith) in
-    let e = c.number_at-lo.ensures.0 in
+pub slice_bounds-copy_from_slice-end : goal.slice_bounds-copy_from_slice-end
+slice_bounds-copy_from_slice-end c =
+    let s : c.loop-n.n - 1 + 1 ≡ c.loop-n.n = omega arith in
+    let w = in_image c.args.cells c.args.journal.now c.requires.good_over.good c.loop-n.n (omega arith) (omega arith) in
+    let e = rw s at c.number_at-lo.ensures.0 in
     let m = c.requires.good_over.long in
     omega arith
 
-pub loop-k-preserved : goal.loop-k-preserved
-loop-k-preserved c =
-    let a = c.args in
-    let l = c.loop-k in
-    let n = c.number_at-lo.result in (
-      omega arith,
-      omega arith,
-      same_len_mid (16 * n) (16 * n + 16 - 16 * n) l.image c.copy_bytes.new.dst c.copy_bytes.auto.dst ∙ l.invariant.2,
-      put_turn a.cells a.journal.now c.requires.good_over.good l.k (omega arith) (omega arith) a.image.now l.image c.copy_bytes.new.dst (16 * n) (ap (λ i. 16 * i) c.number_at-lo.ensures.0) l.invariant.3 c.copy_bytes.ensures,
-    )
+pub overflow_add-at-in-loop-n : goal.overflow_add-at-in-loop-n
+overflow_add-at-in-loop-n c = let w = in_journal c.args.cells c.args.journal.now c.requires.good_over.good c.loop-n.n (omega arith) (omega arith) in omega arith
 
-pub returns : goal.returns
-returns c =
-    let e = le_antisymm c.loop-k.invariant.0 c.loop-k-test.false in
-    rw e c.loop-k.invariant.3
+pub overflow_add-at-in-loop-n-2 : goal.overflow_add-at-in-loop-n-2
+overflow_add-at-in-loop-n-2 c = let w = in_journal c.args.cells c.args.journal.now c.requires.good_over.good c.loop-n.n (omega arith) (omega arith) in omega arith
+
+pub slice_bounds-copy_from_slice-end-in-loop-n : goal.slice_bounds-copy_from_slice-end-in-loop-n
+slice_bounds-copy_from_slice-end-in-loop-n c = let w = in_journal c.args.cells c.args.journal.now c.requires.good_over.good c.loop-n.n (omega arith) (omega arith) in omega arith
+
+pub loop-n-preserved : goal.loop-n-preserved
+loop-n-preserved c =
+    let a = c.args in
+    let l = c.loop-n in
+    let n = c.number_at-lo.result in
+    let s : l.n - 1 + 1 ≡ l.n = omega arith in (
+      omega arith,
+      put_turn a.cells a.journal.now c.requires.good_over.good l.n (omega arith) (omega arith) a.image.now l.image c.copy_from_slice.new.self (16 * n) (ap (λ i. 16 * i) (rw s at c.number_at-lo.ensures.0)) l.invariant.1 (rw s at c.copy_from_slice.ensures.after),
+    )
