@@ -119,13 +119,9 @@ module _ (l m j : List ℕ) where
   abbrev Entered : ℕ → List ℕ → Type 0
   Entered n y = (n ≡ kept_number l m j) × (y ≡ kept_journal l m j)
 
-  pub entered_34 : {b : Bool} {y : List ℕ} → (contents_of j).opened ≡ true → Enters cells l m j b y → b ≡ false → Entered 34 y
+  pub entered_open : {n : ℕ} {y : List ℕ} → (contents_of j).opened ≡ true → Enters cells l m j n y → Entered n y
   unfolding kept_number kept_journal
-  entered_34 o e n = let f = sym e.fitted ∙ n in (rw (o, f), e.written ∙ rw (o, f))
-
-  pub entered_all : {b : Bool} {y : List ℕ} → (contents_of j).opened ≡ true → Enters cells l m j b y → b ≡ true → Entered 0 y
-  unfolding kept_number kept_journal
-  entered_all o e n = let f = sym e.fitted ∙ n in (rw (o, f), e.written ∙ rw (o, f))
+  entered_open o e = (rw o e.fitted, rw o e.written)
 
   pub entered-none : (contents_of j).opened ≡ false → Entered 0 j
   unfolding kept_number kept_journal

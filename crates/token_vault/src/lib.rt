@@ -11,6 +11,7 @@ ghost use Rattle.record.specs.Form.{is_view};
 ghost use Rattle.journal.specs.Calls.{Call};
 ghost use Rattle.journal.specs.Journal.{good_journal};
 ghost use Rattle.journal.specs.Step.{vault, operated};
+ghost use Rattle.refusal.specs.Numbers.{code};
 ghost use Rattle.token_vault.specs.Vault.{call_number, op, vault_step};
 ghost use Rattle.token_vault.specs.Demand.{Demand1, Demand3};
 ghost use Rattle.token_vault.specs.Cells.{EntersCells};
@@ -18,6 +19,7 @@ ghost use Rattle.token_vault.specs.Preview.{preview_answer, PreviewIs, Previews}
 ghost use Rattle.token_vault.specs.Public.{CallIs, CallAlone, closed_journal, JournalIs, Replies, Answers, Tries, state_number, kept_number, kept_journal, Keeps};
 
 use outcome::Answer;
+use refusal::Refusal;
 
 fn refusal(number: u8) -> Answer
     ensures { (result.number ≡ number) × (biased result.value ≡ bias) × (result.events ≡ 0) }
@@ -69,6 +71,16 @@ fn try_operation(copy: &mut [u8], rec: &[u8], events: &mut [u8]) -> Answer
     a
 }
 
+// The number of what the journal answers: 0, or that of its refusal.
+fn number_of(answer: Result<(), Refusal>) -> u8
+    ensures { result ≡ code answer }
+{
+    match answer {
+        Ok(()) => 0,
+        Err(refusal) => u8::from(refusal),
+    }
+}
+
 // 34 where an open journal has no room for the cells in which the copy differs from the image; else they are entered. A closed journal stays.
 fn enter_changes(image: &[u8], copy: &[u8], journal: &mut [u8]) -> u8
     requires { (length image.now ≡ image_length) × (length copy.now ≡ image_length) × (good_journal cells journal.old ≡ true) }
@@ -77,10 +89,7 @@ fn enter_changes(image: &[u8], copy: &[u8], journal: &mut [u8]) -> u8
     if !journal::is_open(journal) {
         return 0;
     }
-    if !journal::enter(image, copy, journal, 2302) {
-        return 34;
-    }
-    0
+    number_of(journal::enter(image, copy, journal, 2302))
 }
 
 // What an accepted operation left goes to the image, unless 34 refuses it.
@@ -234,7 +243,7 @@ pub fn begin(image: &mut [u8], journal: &mut [u8]) -> u32
     if k != 0 {
         return k as u32;
     }
-    journal::begin(journal) as u32
+    u32::from(number_of(journal::begin(journal)))
 }
 
 pub fn commit(image: &mut [u8], journal: &mut [u8]) -> u32
@@ -245,7 +254,7 @@ pub fn commit(image: &mut [u8], journal: &mut [u8]) -> u32
     if k != 0 {
         return k as u32;
     }
-    journal::commit(journal) as u32
+    u32::from(number_of(journal::commit(journal)))
 }
 
 pub fn rollback(image: &mut [u8], journal: &mut [u8]) -> u32
@@ -256,7 +265,7 @@ pub fn rollback(image: &mut [u8], journal: &mut [u8]) -> u32
     if k != 0 {
         return k as u32;
     }
-    journal::rollback(image, journal, 2302) as u32
+    u32::from(number_of(journal::rollback(image, journal, 2302)))
 }
 
 pub fn undo(image: &mut [u8], journal: &mut [u8]) -> u32
@@ -267,7 +276,7 @@ pub fn undo(image: &mut [u8], journal: &mut [u8]) -> u32
     if k != 0 {
         return k as u32;
     }
-    journal::undo(image, journal, 2302) as u32
+    u32::from(number_of(journal::undo(image, journal, 2302)))
 }
 
 // Demand 1 of this vault, over the step that the contracts above cite.

@@ -11,4 +11,4 @@ pub begin-requires : goal.begin-requires
 begin-requires c = record { cells = cells; good = (good_state _ _ c.good_image-is_image_good.ensures c.state_check-k.ensures c.if-k-ne0.false).1 }
 
 pub returns : goal.returns
-returns c = let x = c.args in let (g, h) = good_state _ _ c.good_image-is_image_good.ensures c.state_check-k.ensures c.if-k-ne0.false in journal_step (vault_begin x.image.now x.journal.now g h) (c.begin.ensures x.image.now)
+returns c = let x = c.args in let (g, h) = good_state _ _ c.good_image-is_image_good.ensures c.state_check-k.ensures c.if-k-ne0.false in rw c.number_of.ensures (journal_step (vault_begin x.image.now x.journal.now g h) (c.begin.ensures x.image.now))

@@ -1,7 +1,7 @@
 -- `token_vault::enter_changes` meets its contract.
 use mathlib.Core.Path.{sym, ◌∙◌}
 use native.Mathlib.Omega.{arith}
-use Rattle.token_vault.proofs.Called.{entered_34, entered_all, entered-none}
+use Rattle.token_vault.proofs.Called.{entered_open, entered-none}
 use Rattle.token_vault.proofs.enter_changes.Goals as goal
 
 pub returns-then-not-is_open : goal.returns-then-not-is_open
@@ -10,8 +10,5 @@ returns-then-not-is_open c = let x = c.args in entered-none x.image.now x.copy.n
 pub enter-requires : goal.enter-requires
 enter-requires c = record { long_old = omega arith; long_new = omega arith; numbered = omega arith; good = c.requires.2; opened = sym c.is_open.ensures ∙ c.if-not-is_open.false }
 
-pub returns-then-not-enter : goal.returns-then-not-enter
-returns-then-not-enter c = let x = c.args in entered_34 x.image.now x.copy.now x.journal.now (sym c.is_open.ensures ∙ c.if-not-is_open.false) c.enter.ensures c.if-not-enter.true
-
 pub returns : goal.returns
-returns c = let x = c.args in entered_all x.image.now x.copy.now x.journal.now (sym c.is_open.ensures ∙ c.if-not-is_open.false) c.enter.ensures c.if-not-enter.false
+returns c = let x = c.args in rw c.number_of.ensures (entered_open x.image.now x.copy.now x.journal.now (sym c.is_open.ensures ∙ c.if-not-is_open.false) c.enter.ensures)

@@ -11,4 +11,4 @@ pub rollback-requires : goal.rollback-requires
 rollback-requires c = let (g, h) = good_state _ _ c.good_image-is_image_good.ensures c.state_check-k.ensures c.if-k-ne0.false in record { long = (facts _ g).long; good = h }
 
 pub returns : goal.returns
-returns c = let x = c.args in let (g, h) = good_state _ _ c.good_image-is_image_good.ensures c.state_check-k.ensures c.if-k-ne0.false in journal_step (vault_rollback x.image.now x.journal.now g h) c.rollback.ensures
+returns c = let x = c.args in let (g, h) = good_state _ _ c.good_image-is_image_good.ensures c.state_check-k.ensures c.if-k-ne0.false in rw c.number_of.ensures (journal_step (vault_rollback x.image.now x.journal.now g h) c.rollback.ensures)

@@ -11,4 +11,4 @@ pub undo-requires : goal.undo-requires
 undo-requires c = let (g, h) = good_state _ _ c.good_image-is_image_good.ensures c.state_check-k.ensures c.if-k-ne0.false in record { long = (facts _ g).long; good = h }
 
 pub returns : goal.returns
-returns c = let x = c.args in let (g, h) = good_state _ _ c.good_image-is_image_good.ensures c.state_check-k.ensures c.if-k-ne0.false in journal_step (vault_undo x.image.now x.journal.now g h) c.undo.ensures
+returns c = let x = c.args in let (g, h) = good_state _ _ c.good_image-is_image_good.ensures c.state_check-k.ensures c.if-k-ne0.false in rw c.number_of.ensures (journal_step (vault_undo x.image.now x.journal.now g h) c.undo.ensures)
