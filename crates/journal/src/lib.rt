@@ -42,10 +42,12 @@ fn number_at(journal: &[u8], at: usize) -> usize
     usize::from(fields::get16(journal, at))
 }
 
+#[tactic(auto, using(crate::proofs::Written::calls_at, crate::proofs::Written::count_at))]
 fn read_counts(journal: &[u8]) -> Counts
     requires { 24 ≤ length journal.now }
-    ensures calls { (result.calls ≡ le 2 journal.now 2) × (result.calls < 65536) }
-    ensures entries { (result.entries ≡ le 2 journal.now 4) × (result.entries < 65536) }
+    ensures bytes { (result.calls ≡ le 2 journal.now 2) × (result.entries ≡ le 2 journal.now 4) }
+    ensures contents { (result.calls ≡ (contents_of journal.now).calls) × (result.entries ≡ length (contents_of journal.now).entries) }
+    ensures small { (result.calls < 65536) × (result.entries < 65536) }
 {
     Counts {
         calls: number_at(journal, 2),
@@ -127,6 +129,7 @@ pub fn is_open(journal: &[u8]) -> bool
     journal.first() == Some(&1)
 }
 
+#[tactic(auto, using(crate::proofs::Written::good_long))]
 pub fn begin(journal: &mut [u8]) -> Result<(), Refusal>
     requires { GoodJournal journal.old }
     ensures { (x : List ℕ) → reply (code result) [] (vault x journal.new) ≡ begun (vault x journal.old) }
@@ -192,6 +195,7 @@ fn write_counts(journal: &mut [u8], counts: Counts)
     fields::put16(journal, 4, counts.entries as u16);
 }
 
+#[tactic(auto, using(crate::proofs::Written::good_long))]
 pub fn rollback(image: &mut [u8], journal: &mut [u8], cells: usize) -> Result<(), Refusal>
     requires { GoodOver cells image.old journal.old }
     ensures { reply (code result) [] (vault image.new journal.new) ≡ rolled_back (vault image.old journal.old) }
@@ -205,6 +209,7 @@ pub fn rollback(image: &mut [u8], journal: &mut [u8], cells: usize) -> Result<()
     Ok(())
 }
 
+#[tactic(auto, using(crate::proofs::Written::good_long, crate::proofs::Written::good_room))]
 pub fn undo(image: &mut [u8], journal: &mut [u8], cells: usize) -> Result<(), Refusal>
     requires { GoodOver cells image.old journal.old }
     ensures { reply (code result) [] (vault image.new journal.new) ≡ undone (vault image.old journal.old) }
@@ -340,6 +345,7 @@ pub fn enter_cells(old: &[u8], new: &[u8], places: &mut [u8], cells: usize, call
 }
 
 // The changed cells behind the entries that are there: written as far as there are places, and all entries counted.
+#[tactic(auto, using(crate::proofs::Written::good_room, crate::proofs::Written::good_few))]
 fn enter_behind(
     old: &[u8],
     new: &[u8],
@@ -358,6 +364,7 @@ fn enter_behind(
 }
 
 // Enters an operation that changed the image from `old` to `new`; where it is refused, the journal stays as it is.
+#[tactic(auto, using(crate::proofs::Written::good_long, crate::proofs::Written::good_short, crate::proofs::Written::good_room, crate::proofs::Written::good_few))]
 pub fn enter(old: &[u8], new: &[u8], journal: &mut [u8], cells: usize) -> Result<(), Refusal>
     requires { GoodOpen cells old.now new.now journal.old }
     ensures { Enters cells old.now new.now journal.old (code result) journal.new }

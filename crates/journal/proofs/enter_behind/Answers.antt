@@ -1,32 +1,10 @@
 -- `journal::enter_behind`: the places behind the entries are lent as a part of the journal.
-use Rattle.std.proofs.Common.{◌≡◌, true, List}
-use Rattle.journal.specs.Journal.{contents_of, good_journal}
-use Prim.Native.Nat.{ℕ, suc, ◌+◌, ◌*◌, ◌≤◌}
+use Prim.Native.Nat.{◌+◌, ◌*◌}
 use native.Mathlib.Omega.{arith}
-use lib.ListN.{length}
 use Rattle.journal.proofs.Entering.{found_counted}
 use Rattle.journal.proofs.Stretches.{found_few}
-use Rattle.journal.proofs.Written.{good_room, good_few, good_calls}
+use Rattle.journal.proofs.Written.{good_few, good_calls}
 use Rattle.journal.proofs.enter_behind.Goals as goal
-
--- the journal has the entries, and few of them
-bounded : (cells count : ℕ) (journal : List ℕ) → good_journal cells journal ≡ true → count ≡ length (contents_of journal).entries → (24 * suc count ≤ length journal) × (count ≤ 2000)
-bounded cells count journal g n =
-    let r = good_room cells journal g in
-    let f = good_few cells journal g in
-    (omega arith, omega arith)
-
-pub overflow_add-at : goal.overflow_add-at
-overflow_add-at c = let b = (bounded c.args.cells c.args.count c.args.journal.now c.requires.good_open.good c.requires.call_value.1).1 in omega arith
-
-pub overflow_mul-at : goal.overflow_mul-at
-overflow_mul-at c = let b = (bounded c.args.cells c.args.count c.args.journal.now c.requires.good_open.good c.requires.call_value.1).1 in omega arith
-
-pub slice_bounds-enter_cells-count : goal.slice_bounds-enter_cells-count
-slice_bounds-enter_cells-count c = let b = (bounded c.args.cells c.args.count c.args.journal.now c.requires.good_open.good c.requires.call_value.1).0 in omega arith
-
-pub slice_bounds-enter_cells-start : goal.slice_bounds-enter_cells-start
-slice_bounds-enter_cells-start c = let b = (bounded c.args.cells c.args.count c.args.journal.now c.requires.good_open.good c.requires.call_value.1).0 in omega arith
 
 pub enter_cells-more-requires : goal.enter_cells-more-requires
 enter_cells-more-requires c =
@@ -39,7 +17,7 @@ enter_cells-more-requires c =
 
 pub overflow_add-result : goal.overflow_add-result
 overflow_add-result c =
-    let b = (bounded c.args.cells c.args.count c.args.journal.now c.requires.good_open.good c.requires.call_value.1).1 in
+    let b = good_few c.args.cells c.args.journal.now c.requires.good_open.good in
     let m = c.requires.good_open.numbered in
     let f = found_few c.enter_cells-more.ensures.found in
     omega (arith, b, m, f)

@@ -22,7 +22,7 @@ returns-then-good_head c =
     let n = c.read_counts.ensures in
     elim c.if-good_length.branch [
       | then-good_length w ↦
-          c.good_entries.ensures ∙ rw (n.calls.0, n.entries.0)
+          c.good_entries.ensures ∙ rw (n.bytes.0, n.bytes.1)
           (entries_decide a.cells a.journal.now (λ i. omega (arith, c.type_inv.journal i)) (sym c.good_length.ensures ∙ w.if-good_length.true) (sym w.good_head.ensures ∙ sym w.value-is ∙ c.if-good_head.true))
       | else-good_length w ↦ cc
     ]

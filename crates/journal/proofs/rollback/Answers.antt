@@ -1,24 +1,14 @@
 -- `journal::rollback`: 35, or every entry put back.
 use mathlib.Core.Path.{◌≡◌, sym, ◌∙◌}
-use native.Mathlib.Omega.{arith}
 use lib.ListN.{length, replicate}
 use borrow.Author.Rules.{rules}
 use Rattle.journal.proofs.States.{rolled_open, rolled_closed}
-use Rattle.journal.proofs.Written.{good_long, count_at}
 use Rattle.journal.specs.Step.{vault}
 use Rattle.journal.proofs.rollback.Goals as goal
 
 pub returns-then-not-is_open : goal.returns-then-not-is_open
 returns-then-not-is_open c =
     sym (rolled_closed (vault c.args.image.now c.args.journal.now) (sym c.is_open.ensures ∙ c.if-not-is_open.true))
-
-pub read_counts-counts-requires : goal.read_counts-counts-requires
-read_counts-counts-requires c =
-    let l = good_long c.args.cells c.args.journal.now c.requires.good in
-    omega arith
-
-pub put_back-requires-clause-from_le_count : goal.put_back-requires-clause-from_le_count
-put_back-requires-clause-from_le_count c = (omega arith, c.read_counts-counts.ensures.entries.0 ∙ sym (count_at c.args.journal.now))
 
 pub returns : goal.returns
 returns c =
