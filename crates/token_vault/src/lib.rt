@@ -243,7 +243,7 @@ pub fn begin(image: &mut [u8], journal: &mut [u8]) -> u32
     if k != 0 {
         return k as u32;
     }
-    u32::from(number_of(journal::begin(journal)))
+    number_of(journal::begin(journal)) as u32
 }
 
 pub fn commit(image: &mut [u8], journal: &mut [u8]) -> u32
@@ -254,7 +254,7 @@ pub fn commit(image: &mut [u8], journal: &mut [u8]) -> u32
     if k != 0 {
         return k as u32;
     }
-    u32::from(number_of(journal::commit(journal)))
+    number_of(journal::commit(journal)) as u32
 }
 
 pub fn rollback(image: &mut [u8], journal: &mut [u8]) -> u32
@@ -265,7 +265,7 @@ pub fn rollback(image: &mut [u8], journal: &mut [u8]) -> u32
     if k != 0 {
         return k as u32;
     }
-    u32::from(number_of(journal::rollback(image, journal, 2302)))
+    number_of(journal::rollback(image, journal, 2302)) as u32
 }
 
 pub fn undo(image: &mut [u8], journal: &mut [u8]) -> u32
@@ -276,7 +276,7 @@ pub fn undo(image: &mut [u8], journal: &mut [u8]) -> u32
     if k != 0 {
         return k as u32;
     }
-    u32::from(number_of(journal::undo(image, journal, 2302)))
+    number_of(journal::undo(image, journal, 2302)) as u32
 }
 
 // Demand 1 of this vault, over the step that the contracts above cite.
