@@ -238,11 +238,10 @@ pub fn put_entry(part: &mut [u8], head: EntryHead, old: &[u8])
     requires { (length part.old ≡ 24) × (length old.now ≡ 16) × (head.cell < 65536) × (head.call < 65536) }
     ensures { part.new ≡ entry_bytes (record { cell = head.cell; call = head.call; old = old.now }) }
 {
-    let mut entry = [0u8; 24];
-    entry[0..2].copy_from_slice(&(head.cell as u16).to_le_bytes());
-    entry[2..4].copy_from_slice(&(head.call as u16).to_le_bytes());
-    entry[8..24].copy_from_slice(old);
-    part.copy_from_slice(&entry);
+    part[0..2].copy_from_slice(&(head.cell as u16).to_le_bytes());
+    part[2..4].copy_from_slice(&(head.call as u16).to_le_bytes());
+    part[4..8].fill(0);
+    part[8..24].copy_from_slice(old);
 }
 
 // The byte at which entry n stands, or the end where there is no place for it.

@@ -1,5 +1,5 @@
 -- `journal::same_cell`: two words of each cell.
-use mathlib.Core.Path.{◌≡◌, ◌∙◌}
+use mathlib.Core.Path.{◌∙◌}
 use native.Mathlib.Omega.{arith}
 use Rattle.fields.specs.Logic.{and_is}
 use Rattle.journal.proofs.Stretches.{two_words}
