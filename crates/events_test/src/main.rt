@@ -7,17 +7,11 @@ use amount::Amount;
 use events::Event;
 use std::io;
 
-fn wide(x: u8) -> u64 {
-    x as u64
-}
-
 fn print_bytes(rt: &impl Print, s: &[u8], at: usize, n: usize) -> io::Result<()>
     requires { at + n ≤ length s.now }
 {
-    let mut i: usize = 0;
-    while i < n {
-        print!(rt; "{:02x}", wide(s[at + i]))?;
-        i += 1;
+    for byte in &s[at..at + n] {
+        print!(rt; "{byte:02x}")?;
     }
     Ok(())
 }
@@ -26,10 +20,7 @@ fn rest_is_zero(s: &[u8], i: usize) -> bool
     requires { (length s.now ≡ 896) × (i < 16) }
 {
     let at = 56 * i;
-    if fields::are_zero(s, 0, at) {
-        return fields::are_zero(s, at + 56, 840 - at);
-    }
-    false
+    fields::are_zero(s, 0, at) && fields::are_zero(s, at + 56, 840 - at)
 }
 
 fn show(rt: &impl Print, i: usize, e: Event) -> io::Result<()>

@@ -7,19 +7,11 @@ use amount::Amount;
 use std::io;
 
 fn show(rt: &impl Print, good: bool) -> io::Result<()> {
-    if good {
-        print!(rt; "1 ")
-    } else {
-        print!(rt; "0 ")
-    }
+    print!(rt; "{} ", u8::from(good))
 }
 
 fn end(rt: &impl Print) -> io::Result<()> {
     println!(rt)
-}
-
-fn value(lo: u64) -> Amount {
-    Amount { hi: 0, lo }
 }
 
 // Owner 2, token 48, operator 3, limits, time to live, approved set, a cap, tracked keys.
@@ -30,8 +22,8 @@ fn fill_head(image: &mut [u8])
     fields::put8(image, 2, 2);
     fields::put8(image, 3, 48);
     fields::put8(image, 4, 3);
-    amount::write_amount(image, 8, value(1000));
-    amount::write_amount(image, 24, value(50));
+    amount::write_amount(image, 8, Amount::from(1000));
+    amount::write_amount(image, 24, Amount::from(50));
     fill_sets(image);
 }
 
@@ -47,10 +39,10 @@ fn fill_sets(image: &mut [u8])
 fn fill_middle(image: &mut [u8])
     requires { length image.old ≡ 36832 }
 {
-    amount::write_amount(image, 160, value(7));
+    amount::write_amount(image, 160, Amount::from(7));
     fields::put32(image, 1120, 1);
     fields::put32(image, 1124, 77);
-    amount::write_amount(image, 1128, value(100));
+    amount::write_amount(image, 1128, Amount::from(100));
     fields::put16(image, 1504, 1028);
     fields::put16(image, 1506, 3);
 }
@@ -59,9 +51,9 @@ fn fill_tokens(image: &mut [u8])
     requires { length image.old ≡ 36832 }
 {
     fields::put64(image, 3680, 1);
-    amount::write_amount(image, 3688, value(3));
-    amount::write_amount(image, 4080, value(100));
-    amount::write_amount(image, 20496, value(5));
+    amount::write_amount(image, 3688, Amount::from(3));
+    amount::write_amount(image, 4080, Amount::from(100));
+    amount::write_amount(image, 20496, Amount::from(5));
 }
 
 // The image with one byte changed; the byte is put back.

@@ -4,9 +4,10 @@
 ghost use Rattle.std.specs.Prelude.{◌≡◌, ◌<◌, length};
 
 use amount::Amount;
+use std::fmt::Display;
 use std::io;
 
-fn number(rt: &impl Print, n: u64) -> io::Result<()> {
+fn number<T: Display + Copy>(rt: &impl Print, n: T) -> io::Result<()> {
     print!(rt; "{n} ")
 }
 
@@ -28,7 +29,7 @@ fn try_byte(rt: &impl Print, rec: &mut [u8], operation: u8, at: usize, value: u8
     requires { (length rec.old ≡ 448) × (at < 448) }
 {
     let n = form_of(rec, operation, at, value);
-    number(rt, n as u64)
+    number(rt, n)
 }
 
 // The number where item i of the counted ones has the address.
@@ -47,7 +48,7 @@ fn try_item(
     fields::put8(rec, 5, count);
     fields::put8(rec, 64 + 24 * i, address);
     let n = record::form_check(rec);
-    number(rt, n as u64)
+    number(rt, n)
 }
 
 fn operations(rt: &impl Print, rec: &mut [u8]) -> io::Result<()>
@@ -102,7 +103,7 @@ fn items(rt: &impl Print, rec: &mut [u8]) -> io::Result<()>
 fn row(rt: &impl Print, rec: &mut [u8], operation: u8) -> io::Result<()>
     requires { length rec.old ≡ 448 }
 {
-    number(rt, operation as u64)?;
+    number(rt, operation)?;
     if record::is_view(operation) {
         print!(rt; "view ")?;
     }
@@ -117,36 +118,31 @@ fn row(rt: &impl Print, rec: &mut [u8], operation: u8) -> io::Result<()>
 fn rows(rt: &impl Print, rec: &mut [u8]) -> io::Result<()>
     requires { length rec.old ≡ 448 }
 {
-    let mut o: u8 = 1;
-    while o < 31 {
-        row(rt, rec, o)?;
-        o += 1;
+    for operation in 1..31 {
+        row(rt, rec, operation)?;
     }
     Ok(())
-}
-
-fn wide(x: u8) -> u64 {
-    x as u64
 }
 
 fn small_fields(rt: &impl Print, rec: &[u8]) -> io::Result<()>
     requires { length rec.now ≡ 448 }
 {
-    number(rt, wide(record::operation(rec)))?;
-    number(rt, wide(record::caller(rec)))?;
-    number(rt, wide(record::token(rec)))?;
-    number(rt, wide(record::other(rec)))?;
-    number(rt, wide(record::flag(rec)))?;
-    number(rt, wide(record::item_count(rec)))?;
+    number(rt, record::operation(rec))?;
+    number(rt, record::caller(rec))?;
+    number(rt, record::token(rec))?;
+    number(rt, record::other(rec))?;
+    number(rt, record::flag(rec))?;
+    number(rt, record::item_count(rec))?;
     number(rt, record::timestamp(rec))?;
-    number(rt, record::sequence(rec) as u64)?;
+    number(rt, record::sequence(rec))?;
     number(rt, record::signers(rec))?;
     number(rt, record::time_to_live(rec))?;
     end(rt)
 }
 
+// The low half of its sixteen bytes.
 fn low(rt: &impl Print, a: Amount) -> io::Result<()> {
-    number(rt, a.lo)
+    number(rt, a.0 & i128::from(u64::MAX))
 }
 
 fn amounts(rt: &impl Print, rec: &[u8]) -> io::Result<()>
@@ -154,9 +150,9 @@ fn amounts(rt: &impl Print, rec: &[u8]) -> io::Result<()>
 {
     low(rt, record::amount(rec))?;
     low(rt, record::fee(rec))?;
-    number(rt, wide(record::item_address(rec, 0)))?;
+    number(rt, record::item_address(rec, 0))?;
     low(rt, record::item_amount(rec, 0))?;
-    number(rt, wide(record::item_address(rec, 15)))?;
+    number(rt, record::item_address(rec, 15))?;
     low(rt, record::item_amount(rec, 15))?;
     end(rt)
 }
@@ -165,23 +161,21 @@ fn amounts(rt: &impl Print, rec: &[u8]) -> io::Result<()>
 fn fill(rec: &mut [u8])
     requires { length rec.old ≡ 448 }
 {
-    let mut i: usize = 0;
-    while i < 448 {
-        rec[i] = (i % 251) as u8;
-        i += 1;
+    for (i, byte) in rec.iter_mut().enumerate() {
+        *byte = (i % 251) as u8;
     }
 }
 
 fn lengths(rt: &impl Print) -> io::Result<()> {
     let mut short = [0u8; 447];
     short[0] = 24;
-    number(rt, record::form_check(&short) as u64)?;
+    number(rt, record::form_check(&short))?;
     let mut long = [0u8; 449];
     long[0] = 24;
-    number(rt, record::form_check(&long) as u64)?;
+    number(rt, record::form_check(&long))?;
     let mut whole = [0u8; 448];
     whole[0] = 24;
-    number(rt, record::form_check(&whole) as u64)?;
+    number(rt, record::form_check(&whole))?;
     end(rt)
 }
 
