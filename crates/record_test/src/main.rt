@@ -4,6 +4,7 @@
 ghost use Rattle.std.specs.Prelude.{◌≡◌, ◌<◌, length};
 
 use amount::Amount;
+use refusal::Refusal;
 use std::fmt::Display;
 use std::io;
 
@@ -15,6 +16,14 @@ fn end(rt: &impl Print) -> io::Result<()> {
     println!(rt)
 }
 
+// The number of a refusal, and 0 where there is none.
+fn code(form: Result<(), Refusal>) -> u8 {
+    match form {
+        Ok(()) => 0,
+        Err(refusal) => u8::from(refusal),
+    }
+}
+
 // The number of a record of zeros but for the operation and one byte.
 fn form_of(rec: &mut [u8], operation: u8, at: usize, value: u8) -> u8
     requires { (length rec.old ≡ 448) × (at < 448) }
@@ -22,7 +31,7 @@ fn form_of(rec: &mut [u8], operation: u8, at: usize, value: u8) -> u8
     fields::clear(rec);
     fields::put8(rec, 0, operation);
     fields::put8(rec, at, value);
-    record::form_check(rec)
+    code(record::form_check(rec))
 }
 
 fn try_byte(rt: &impl Print, rec: &mut [u8], operation: u8, at: usize, value: u8) -> io::Result<()>
@@ -47,7 +56,7 @@ fn try_item(
     fields::put8(rec, 0, operation);
     fields::put8(rec, 5, count);
     fields::put8(rec, 64 + 24 * i, address);
-    let n = record::form_check(rec);
+    let n = code(record::form_check(rec));
     number(rt, n)
 }
 
@@ -169,13 +178,13 @@ fn fill(rec: &mut [u8])
 fn lengths(rt: &impl Print) -> io::Result<()> {
     let mut short = [0u8; 447];
     short[0] = 24;
-    number(rt, record::form_check(&short))?;
+    number(rt, code(record::form_check(&short)))?;
     let mut long = [0u8; 449];
     long[0] = 24;
-    number(rt, record::form_check(&long))?;
+    number(rt, code(record::form_check(&long)))?;
     let mut whole = [0u8; 448];
     whole[0] = 24;
-    number(rt, record::form_check(&whole))?;
+    number(rt, code(record::form_check(&whole)))?;
     end(rt)
 }
 
