@@ -1,4 +1,3 @@
 -- What the proofs of several functions use.
 pub mod Read
-pub mod Faults
 pub mod Pieces

@@ -1,15 +1,25 @@
 -- A decimal number, digit by digit.
-use mathlib.Core.Path.{◌≡◌}
-use mathlib.Core.Bool.{true, false}
+use mathlib.Core.Path.{◌≡◌, refl}
+use mathlib.Core.Bool.{Bool, true, false, ◌&&◌}
+use Rattle.std.specs.Char.{is_ascii_digit}
 use mathlib.Core.List.{List}
 use Prim.Native.Nat.{ℕ, suc, ◌+◌, ◌*◌, ◌-◌, ◌^◌, ◌<◌, ◌≤◌}
 use native.Mathlib.Omega.{arith}
 use borrow.Author.Tests.{leb-true, eq-eqb, ne_eqb, lt-ltb, le-ltb}
-use lib.Dec.{ltb}
+use lib.Dec.{ltb, leb}
 use lib.ListN.{length, get_or, drop}
 use lib.Seq.{drop-cons}
 use Rattle.fields.specs.Logic.{◌and◌, ◌or◌, and_l, and_r}
 use Rattle.token_vault_trial.specs.Arguments.{malformed, is_digit, digits_after, is_ill_begun, read_decimal}
+
+and_same : (a b : Bool) → (a and b) ≡ (a && b)
+unfolding ◌and◌
+and_same true b = refl
+and_same false b = refl
+
+pub is_digit-ascii : (b : ℕ) → is_digit b ≡ is_ascii_digit b
+unfolding is_digit
+is_digit-ascii b = and_same (leb 48 b) (leb b 57)
 
 pub digit_bounds : (b : ℕ) → is_digit b ≡ true → (48 ≤ b) × (b ≤ 57)
 unfolding is_digit

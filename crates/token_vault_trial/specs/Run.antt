@@ -1,19 +1,36 @@
--- What the program does: the arguments as it has read them, the records of a piece that it writes, and how a run ends.
-use Rattle.std.specs.Prelude.{◌≡◌, Bool, true, List, ℕ, ◌+◌, ◌<◌}
-use Rattle.fields.specs.Rules.{pick}
-use Rattle.trial_records.specs.Trial.{records_from, reached_from}
+-- What the program does: the arguments as it has read them, its faults by their numbers, and the records that are asked for.
+use Rattle.std.specs.Prelude.{◌≡◌, ℕ, ◌+◌, ◌^◌, ◌≤◌, Option, Some, None, Result, Ok, Err}
 use Rattle.token_vault_trial.specs.Arguments.{Reading, malformed, number}
-use Rattle.token_vault_trial.specs.declared.Decimal.{Decimal}
+use Rattle.token_vault_trial.specs.declared.Records.{Records}
+use Rattle.token_vault_trial.specs.declared.Fault.{Fault}
+use Rattle.token_vault_trial.specs.declared.Fault.TheVariants.{NotThree, Start, First, Count, FirstIsZero, LastTooLarge}
 
-abbrev pub reading_of : Decimal → Reading
-reading_of d = pick d.is_number (number d.number) malformed
+-- what was read of an argument, and its number, 0 where it has none
+abbrev pub reading_of : Option ℕ → Reading
+reading_of None = malformed
+reading_of (Some n) = number n
 
--- l is the n records that follow the first `made` of those that the numbers `start` and `first` give
-abbrev pub IsPiece : (start first made n : ℕ) → (l : List ℕ) → Type 0
-IsPiece start first made n l = l ≡ records_from (reached_from start made) (first + made) n
+abbrev pub number_or_zero : Option ℕ → ℕ
+number_or_zero None = 0
+number_or_zero (Some n) = n
 
--- a run whose arguments have the fault f: none is made, or all are, unless a piece was not written
-pub record RunIs (f count fault made : ℕ) (is_written : Bool) : Type 0 where
-  pub same_fault : fault ≡ f
-  pub none_made : 0 < f → made ≡ 0
-  pub all_made : f ≡ 0 → is_written ≡ true → made ≡ count
+-- the number of a fault, and of an answer: 0 where nothing is wrong
+abbrev pub number_of : Fault → ℕ
+number_of NotThree = 1
+number_of Start = 2
+number_of First = 3
+number_of Count = 4
+number_of FirstIsZero = 5
+number_of LastTooLarge = 6
+
+abbrev pub code : {T : Type 0} → Result T Fault → ℕ
+code (Ok _) = 0
+code (Err fault) = number_of fault
+
+-- the records that the numbers ask for, none of which is refused
+pub record IsOrder (start first count : ℕ) (r : Records) : Type 0 where
+  pub last : r.last ≡ start
+  pub next : r.next ≡ first
+  pub left : r.left ≡ count
+  pub positive : 1 ≤ r.next
+  pub within : r.next + r.left ≤ 2 ^ 32

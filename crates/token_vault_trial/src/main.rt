@@ -2,101 +2,49 @@
 // Where they are wrong, a line with a number goes to standard error and nothing to standard output; the exit status is 0 all the same.
 #![tactic(auto)]
 
-ghost use Rattle.std.specs.Prelude.{◌≡◌, true, ◌+◌, ◌*◌, ◌^◌, ◌<◌, ◌≤◌, ltb, length};
+ghost use Rattle.std.specs.Prelude.{◌≡◌, ◌++◌, ◌+◌, ◌^◌, ◌<◌, ◌≤◌, length, Some, IfOk, OnOk, IsSome, is_some};
 ghost use Rattle.std.specs.Io.KnownBytes.{Appends};
-ghost use Rattle.trial_records.specs.Trial.{records_from, reached_from};
-ghost use Rattle.token_vault_trial.specs.Arguments.{malformed, is_digit, digits_after, read_decimal, argument_fault, fault_text, fault_line};
-ghost use Rattle.token_vault_trial.specs.Run.{reading_of, IsPiece, RunIs};
+ghost use Rattle.trial_records.specs.Trial.{records_from};
+ghost use Rattle.token_vault_trial.specs.Arguments.{digits_after, read_decimal, argument_fault, fault_text, fault_line};
+ghost use Rattle.token_vault_trial.specs.Run.{reading_of, number_or_zero, number_of, code, IsOrder};
 
 use std::env::FillError;
 use std::io::Write;
 use std::rt::Env;
+use std::{fmt, io};
 
 // ---- the arguments
-// A number, or none.
-#[derive(Clone, Copy)]
-struct Decimal {
-    is_number: bool,
-    number: u64,
-}
-
-fn none() -> Decimal
-    ensures { reading_of result ≡ malformed }
-{
-    Decimal {
-        is_number: false,
-        number: 0,
-    }
-}
-
-fn is_digit(b: u8) -> bool
-    ensures { result ≡ is_digit b }
-{
-    fields::both(48 <= b, b <= 57)
-}
-
-// Whether 10 n + d is below 2^64.
-fn fits(n: u64, d: u8) -> bool
-    requires { d < 10 }
-    ensures { result ≡ ltb (10 * n + d) (2 ^ 64) }
-{
-    if n < 1844674407370955161 {
-        return true;
-    }
-    if n > 1844674407370955161 {
-        return false;
-    }
-    if d < 6 {
-        return true;
-    }
-    false
-}
-
-fn read_digits(text: &[u8]) -> Decimal
+fn read_digits(text: &[u8]) -> Option<u64>
     ensures { reading_of result ≡ digits_after 0 text.now }
 {
     let mut number = 0u64;
-    let mut i = 0;
-    while i < text.len() {
-        let b = text[i];
-        if !is_digit(b) {
-            return none();
+    for &b in text {
+        if !b.is_ascii_digit() {
+            return None;
         }
-        let d = b - 48;
-        if !fits(number, d) {
-            return none();
-        }
-        number = 10 * number + d as u64;
-        i += 1;
+        let digit = u64::from(b - b'0');
+        number = number.checked_mul(10)?.checked_add(digit)?;
     }
-    Decimal {
-        is_number: true,
-        number,
-    }
+    Some(number)
 }
 
-fn read_decimal(text: &[u8]) -> Decimal
+fn read_decimal(text: &[u8]) -> Option<u64>
     ensures { reading_of result ≡ read_decimal text.now }
 {
-    if text.len() == 0 {
-        return none();
+    if text.is_empty() {
+        return None;
     }
-    if text.len() == 1 {
-        return read_digits(text);
-    }
-    if text[0] == 48 {
-        return none();
+    if text.len() > 1 && text[0] == b'0' {
+        return None;
     }
     read_digits(text)
 }
 
 // Of more than 20 bytes there is no number below 2^64.
-fn read_argument<E: Env>(env: &E, i: usize) -> Decimal {
+fn read_argument<E: Env>(env: &E, i: usize) -> Option<u64> {
     let mut text = [0u8; 20];
-    match env.arg(i, &mut text) {
-        Ok(n) => read_decimal(&text[..n]),
-        Err(_) => none(),
-    }
+    let n = env.arg(i, &mut text).ok()?;
+    read_decimal(&text[..n])
 }
 
 // How many arguments there are, the program's own name among them. One that does not fit the buffer is one too.
@@ -110,230 +58,115 @@ fn count_arguments<E: Env>(env: &E) -> usize {
     usize::MAX
 }
 
-fn argument_fault(words: usize, start: Decimal, first: Decimal, count: Decimal) -> u8
-    ensures { result ≡ argument_fault words start.is_number first.is_number count.is_number first.number count.number }
-{
-    if words != 4 {
-        return 1;
+// What can be wrong with the arguments.
+#[derive(Clone, Copy, Debug, PartialEq, Eq)]
+enum Fault {
+    NotThree,
+    Start,
+    First,
+    Count,
+    FirstIsZero,
+    LastTooLarge,
+}
+
+impl fmt::Display for Fault {
+    ghost output = { λ fault. Some (fault_text (number_of fault)) };
+
+    fn fmt<W: fmt::Write>(&self, f: &mut fmt::Formatter<W>) -> fmt::Result {
+        f.write_str(match *self {
+            Fault::NotThree => "1: three arguments are wanted: START, FIRST and COUNT",
+            Fault::Start => "2: START is not a decimal number from 0 to 18446744073709551615",
+            Fault::First => "3: FIRST is not a decimal number from 0 to 18446744073709551615",
+            Fault::Count => "4: COUNT is not a decimal number from 0 to 18446744073709551615",
+            Fault::FirstIsZero => "5: FIRST is 0: record numbers begin at 1",
+            Fault::LastTooLarge => "6: the last record's number would be above 4294967295",
+        })
     }
-    if !start.is_number {
-        return 2;
-    }
-    if !first.is_number {
-        return 3;
-    }
-    if !count.is_number {
-        return 4;
-    }
-    if first.number == 0 {
-        return 5;
-    }
-    if first.number > 4294967296 {
-        return 6;
-    }
-    if count.number > 4294967296 {
-        return 6;
-    }
-    if first.number + count.number > 4294967296 {
-        return 6;
-    }
-    0
 }
 
 // ---- the records
-// Every byte of standard output goes through here: the n records that follow the first `made` of those that START and FIRST give.
-fn write_piece<O: Write>(
-    output: &mut O,
-    piece: &[u8],
-    start: u64,
-    first: u64,
-    made: u64,
-    n: u64,
-) -> bool
-    requires { IsPiece start first made n piece.now }
-    ensures { result ≡ true → Appends (O.contents output.old) (O.contents output.new) piece.now }
-{
-    streams::write_all(output, piece)
-}
-
-#[derive(Clone, Copy)]
-struct Piece {
-    n: u64,
-    reached: u64,
-    is_written: bool,
-}
-
-// How many of the records that are left stand in one piece.
-fn piece_size(left: u64) -> u64
-    ensures { (result ≤ left) × (result ≤ 128) × (0 < left → 0 < result) }
-{
-    if left < 128 {
-        return left;
-    }
-    128
-}
-
-// `last` is the number that the first `made` records reached, and `n` of those that are left fit into the buffer.
-fn make_piece<O: Write>(
-    output: &mut O,
-    buffer: &mut [u8],
-    start: u64,
-    first: u64,
-    made: u64,
+// Records that are to be made: `left` of them, with record numbers from `next` on. `last` is the generator's number.
+#[derive(Clone, Copy, Debug, PartialEq, Eq)]
+struct Records {
     last: u64,
-    n: u64,
-) -> Piece
-    requires { (length buffer.old ≡ 57344) × (n ≤ 128) × (last ≡ reached_from start made) × (1 ≤ first) × (first + made + n ≤ 2 ^ 32) }
-    ensures reached { (result.n ≡ n) × (result.reached ≡ reached_from start (made + n)) }
-    ensures written { result.is_written ≡ true → Appends (O.contents output.old) (O.contents output.new) (records_from (reached_from start made) (first + made) n) }
-{
-    let end = 448 * n as usize;
-    let reached = trial_records::trial_records(last, first + made, &mut buffer[..end]).unwrap();
-    let is_written = write_piece(output, &buffer[..end], start, first, made, n);
-    Piece {
-        n,
-        reached,
-        is_written,
-    }
-}
-
-fn next_piece<O: Write>(
-    output: &mut O,
-    buffer: &mut [u8; 57344],
-    start: u64,
-    first: u64,
-    made: u64,
-    last: u64,
+    next: u64,
     left: u64,
-) -> Piece
-    requires { (last ≡ reached_from start made) × (1 ≤ first) × (first + made + left ≤ 2 ^ 32) × (0 < left) }
-    ensures reached { (result.reached ≡ reached_from start (made + result.n)) × (0 < result.n) × (result.n ≤ left) }
-    ensures written { result.is_written ≡ true → Appends (O.contents output.old) (O.contents output.new) (records_from (reached_from start made) (first + made) result.n) }
+}
+
+const RECORDS_END: u64 = 1 << 32;
+
+// The records that the arguments ask for, `words` counting the program's own name too.
+fn records_asked(
+    words: usize,
+    start: Option<u64>,
+    first: Option<u64>,
+    count: Option<u64>,
+) -> Result<Records, Fault>
+    ensures fault { code result ≡ argument_fault words (is_some start) (is_some first) (is_some count) (number_or_zero first) (number_or_zero count) }
+    ensures numbers { IfOk result (IsOrder (number_or_zero start) (number_or_zero first) (number_or_zero count)) }
 {
-    let n = piece_size(left);
-    make_piece(output, buffer, start, first, made, last, n)
+    if words != 4 {
+        return Err(Fault::NotThree);
+    }
+    let last = start.ok_or(Fault::Start)?;
+    let next = first.ok_or(Fault::First)?;
+    let left = count.ok_or(Fault::Count)?;
+    if next == 0 {
+        return Err(Fault::FirstIsZero);
+    }
+    if next > RECORDS_END || left > RECORDS_END - next {
+        return Err(Fault::LastTooLarge);
+    }
+    Ok(Records { last, next, left })
 }
 
-#[derive(Clone, Copy)]
-struct Written {
-    made: u64,
-    is_written: bool,
+impl Records {
+    // Makes the next records, as many as the buffer has room for.
+    fn next_piece<'a>(&mut self, buffer: &'a mut [u8; 57344]) -> &'a [u8]
+        requires { (0 < self.old.left) × (1 ≤ self.old.next) × (self.old.next + self.old.left ≤ 2 ^ 32) }
+        ensures piece { records_from self.old.last self.old.next self.old.left ≡ result.now ++ records_from self.new.last self.new.next self.new.left }
+        ensures rest { (self.new.left < self.old.left) × (self.new.next + self.new.left ≡ self.old.next + self.old.left) }
+    {
+        let n = self.left.min(128);
+        let piece = &mut buffer[..448 * n as usize];
+        let reached = trial_records::trial_records(self.last, self.next, piece).unwrap();
+        self.last = reached;
+        self.next += n;
+        self.left -= n;
+        piece
+    }
 }
 
-fn write_records<O: Write>(output: &mut O, start: u64, first: u64, count: u64) -> Written
-    requires { (1 ≤ first) × (first + count ≤ 2 ^ 32) }
-    ensures made { result.is_written ≡ true → result.made ≡ count }
-    ensures written { result.is_written ≡ true → Appends (O.contents output.old) (O.contents output.new) (records_from start first count) }
+fn write_records<O: Write>(output: &mut O, mut records: Records) -> io::Result<()>
+    requires { (1 ≤ records.next) × (records.next + records.left ≤ 2 ^ 32) }
+    ensures { OnOk result (Appends (O.contents output.old) (O.contents output.new) (records_from records.last records.next records.left)) }
 {
     let mut buffer = [0u8; 57344];
-    let mut last = start;
-    let mut made = 0u64;
-    while made < count {
-        let piece = next_piece(output, &mut buffer, start, first, made, last, count - made);
-        last = piece.reached;
-        made += piece.n;
-        if !piece.is_written {
-            return Written {
-                made,
-                is_written: false,
-            };
-        }
+    while records.left > 0 {
+        let piece = records.next_piece(&mut buffer);
+        output.write_all(piece)?;
     }
-    Written {
-        made,
-        is_written: true,
-    }
-}
-
-// ---- what is wrong with the arguments
-// Every byte of standard error goes through here, and all of them are the line of a fault.
-fn write_fault_line<E: Write>(error: &mut E, line: &[u8], fault: u8) -> bool
-    requires { (line.now ≡ fault_line fault) × (0 < fault) × (fault ≤ 6) }
-    ensures { result ≡ true → Appends (E.contents error.old) (E.contents error.new) (fault_line fault) }
-{
-    streams::write_all(error, line)
-}
-
-fn write_sentence<E: Write>(error: &mut E, sentence: &[u8], fault: u8) -> bool
-    requires { (sentence.now ≡ fault_text fault) × (length sentence.now ≤ 80) × (0 < fault) × (fault ≤ 6) }
-    ensures { result ≡ true → Appends (E.contents error.old) (E.contents error.new) (fault_line fault) }
-{
-    let mut out = [0u8; 128];
-    let start = answer_line::write_message(&mut out, 128, b"token_vault_trial: ", sentence);
-    let whole = &out[..];
-    write_fault_line(error, &whole[start..], fault)
-}
-
-fn write_fault<E: Write>(error: &mut E, fault: u8) -> bool
-    requires { (0 < fault) × (fault ≤ 6) }
-    ensures { result ≡ true → Appends (E.contents error.old) (E.contents error.new) (fault_line fault) }
-{
-    match fault {
-        1 => write_sentence(
-            error,
-            b"1: three arguments are wanted: START, FIRST and COUNT",
-            fault,
-        ),
-        2 => write_sentence(
-            error,
-            b"2: START is not a decimal number from 0 to 18446744073709551615",
-            fault,
-        ),
-        3 => write_sentence(
-            error,
-            b"3: FIRST is not a decimal number from 0 to 18446744073709551615",
-            fault,
-        ),
-        4 => write_sentence(
-            error,
-            b"4: COUNT is not a decimal number from 0 to 18446744073709551615",
-            fault,
-        ),
-        5 => write_sentence(error, b"5: FIRST is 0: record numbers begin at 1", fault),
-        _ => write_sentence(
-            error,
-            b"6: the last record's number would be above 4294967295",
-            fault,
-        ),
-    }
-}
-
-// What is wrong with the arguments; how many records were made, and whether they were written.
-#[derive(Clone, Copy)]
-struct Ended {
-    fault: u8,
-    made: u64,
-    is_written: bool,
+    Ok(())
 }
 
 fn run<O: Write, E: Write>(
     output: &mut O,
     error: &mut E,
     words: usize,
-    start: Decimal,
-    first: Decimal,
-    count: Decimal,
-) -> Ended
-    ensures ended { RunIs (argument_fault words start.is_number first.is_number count.is_number first.number count.number) count.number result.fault result.made result.is_written }
-    ensures written { result.fault ≡ 0 → result.is_written ≡ true → Appends (O.contents output.old) (O.contents output.new) (records_from start.number first.number count.number) }
-    ensures no_record { 0 < result.fault → output.new ≡ output.old }
-    ensures said { 0 < result.fault → result.is_written ≡ true → Appends (E.contents error.old) (E.contents error.new) (fault_line result.fault) }
-    ensures nothing_said { result.fault ≡ 0 → error.new ≡ error.old }
+    start: Option<u64>,
+    first: Option<u64>,
+    count: Option<u64>,
+) -> io::Result<()>
+    ensures written { let fault = argument_fault words (is_some start) (is_some first) (is_some count) (number_or_zero first) (number_or_zero count) in fault ≡ 0 → OnOk result (Appends (O.contents output.old) (O.contents output.new) (records_from (number_or_zero start) (number_or_zero first) (number_or_zero count))) }
+    ensures no_record { let fault = argument_fault words (is_some start) (is_some first) (is_some count) (number_or_zero first) (number_or_zero count) in 0 < fault → output.new ≡ output.old }
+    ensures said { let fault = argument_fault words (is_some start) (is_some first) (is_some count) (number_or_zero first) (number_or_zero count) in 0 < fault → OnOk result (Appends (E.contents error.old) (E.contents error.new) (fault_line fault)) }
+    ensures nothing_said { let fault = argument_fault words (is_some start) (is_some first) (is_some count) (number_or_zero first) (number_or_zero count) in fault ≡ 0 → error.new ≡ error.old }
 {
-    let fault = argument_fault(words, start, first, count);
-    if fault != 0 {
-        let is_written = write_fault(error, fault);
-        return Ended {
-            fault,
-            made: 0,
-            is_written,
-        };
-    }
-    let written = write_records(output, start.number, first.number, count.number);
-    Ended {
-        fault: 0,
-        made: written.made,
-        is_written: written.is_written,
+    match records_asked(words, start, first, count) {
+        Ok(records) => write_records(output, records),
+        Err(fault) => {
+            streams::print_line::<128, _, _>(error, &format_args!("token_vault_trial: {fault}"))
+        }
     }
 }
 
@@ -349,5 +182,6 @@ fn main(rt: HostRuntime) {
         start,
         first,
         count,
-    );
+    )
+    .ok();
 }
