@@ -5,6 +5,7 @@ ghost use Rattle.std.specs.Prelude.{◌≡◌, ◌+◌, ◌<◌, ◌≤◌, leng
 
 use amount::Amount;
 use events::Event;
+use refusal::Refusal;
 use std::io;
 
 fn print_bytes(rt: &impl Print, s: &[u8], at: usize, n: usize) -> io::Result<()>
@@ -37,64 +38,186 @@ fn show(rt: &impl Print, i: usize, e: Event) -> io::Result<()>
     }
 }
 
-fn money(x: u64) -> Amount {
-    Amount { hi: 0, lo: x }
-}
-
-fn debt(x: u64) -> Amount {
-    Amount { hi: -1, lo: x }
-}
-
 fn deposits(rt: &impl Print) -> io::Result<()> {
-    show(rt, 0, events::initialized(2, 48, money(1000)))?;
-    show(rt, 1, events::deposited(3, money(258), money(65536)))?;
+    show(
+        rt,
+        0,
+        Event::Initialized {
+            owner: 2,
+            token: 48,
+            max_limit: Amount::from(1000),
+        },
+    )?;
+    show(
+        rt,
+        1,
+        Event::Deposited {
+            from: 3,
+            amount: Amount::from(258),
+            new_balance: Amount::from(65536),
+        },
+    )?;
     show(
         rt,
         2,
-        events::token_deposited(4, money(10), money(9), money(1)),
+        Event::TokenDeposited {
+            from: 4,
+            gross_amount: Amount::from(10),
+            fee_amount: Amount::from(9),
+            net_amount: Amount::from(1),
+        },
     )?;
     show(
         rt,
         3,
-        events::withdrawn(2, 5, money(40), debt(18446744073709551615), true),
+        Event::Withdrawn {
+            caller: 2,
+            to: 5,
+            amount: Amount::from(40),
+            new_balance: Amount(-1),
+            by_operator: true,
+        },
     )?;
-    show(rt, 4, events::withdrawn(2, 5, money(40), money(60), false))
+    show(
+        rt,
+        4,
+        Event::Withdrawn {
+            caller: 2,
+            to: 5,
+            amount: Amount::from(40),
+            new_balance: Amount::from(60),
+            by_operator: false,
+        },
+    )
 }
 
 fn settings(rt: &impl Print) -> io::Result<()> {
-    show(rt, 5, events::limit_set(2, money(1000), money(2000)))?;
+    show(
+        rt,
+        5,
+        Event::LimitSet {
+            caller: 2,
+            old_limit: Amount::from(1000),
+            new_limit: Amount::from(2000),
+        },
+    )?;
     show(
         rt,
         6,
-        events::operator_withdraw_limit_set(2, money(0), money(50)),
+        Event::OperatorWithdrawLimitSet {
+            caller: 2,
+            old_limit: Amount::from(0),
+            new_limit: Amount::from(50),
+        },
     )?;
-    show(rt, 7, events::operator_set(2, 3))?;
-    show(rt, 8, events::operator_revoked(2))?;
-    show(rt, 9, events::paused(2, 18446744073709551615))?;
-    show(rt, 10, events::unpaused(2, 604800))
+    show(
+        rt,
+        7,
+        Event::OperatorSet {
+            caller: 2,
+            operator: 3,
+        },
+    )?;
+    show(rt, 8, Event::OperatorRevoked { caller: 2 })?;
+    show(
+        rt,
+        9,
+        Event::Paused {
+            caller: 2,
+            paused_at: 18446744073709551615,
+        },
+    )?;
+    show(
+        rt,
+        10,
+        Event::Unpaused {
+            caller: 2,
+            resumed_at: 604800,
+        },
+    )
 }
 
 fn owners(rt: &impl Print) -> io::Result<()> {
-    show(rt, 11, events::owner_proposed(2, 6))?;
-    show(rt, 12, events::owner_accepted(6, 2))?;
-    show(rt, 13, events::owner_proposal_ttl_set(6, 604800, 1))
+    show(
+        rt,
+        11,
+        Event::OwnerProposed {
+            caller: 2,
+            new_owner: 6,
+        },
+    )?;
+    show(
+        rt,
+        12,
+        Event::OwnerAccepted {
+            caller: 6,
+            old_owner: 2,
+        },
+    )?;
+    show(
+        rt,
+        13,
+        Event::OwnerProposalTtlSet {
+            caller: 6,
+            old_ttl: 604800,
+            new_ttl: 1,
+        },
+    )
 }
 
 fn others(rt: &impl Print) -> io::Result<()> {
-    show(rt, 14, events::emergency_migration_initiated(2, 7, 172800))?;
+    show(
+        rt,
+        14,
+        Event::EmergencyMigrationInitiated {
+            caller: 2,
+            destination: 7,
+            executable_at: 172800,
+        },
+    )?;
     show(
         rt,
         15,
-        events::emergency_migration_executed(2, 7, money(100)),
+        Event::EmergencyMigrationExecuted {
+            caller: 2,
+            destination: 7,
+            amount: Amount::from(100),
+        },
     )?;
-    show(rt, 0, events::emergency_migration_cancelled(2))?;
-    show(rt, 1, events::vault_deposit_failed(3, 48, money(500)))?;
-    show(rt, 2, events::token_approval_changed(49, true))?;
-    show(rt, 3, events::token_approval_changed(49, false))
+    show(rt, 0, Event::EmergencyMigrationCancelled { caller: 2 })?;
+    show(
+        rt,
+        1,
+        Event::VaultDepositFailed {
+            from: 3,
+            token: 48,
+            amount: Amount::from(500),
+        },
+    )?;
+    show(
+        rt,
+        2,
+        Event::TokenApprovalChanged {
+            token: 49,
+            approved: true,
+        },
+    )?;
+    show(
+        rt,
+        3,
+        Event::TokenApprovalChanged {
+            token: 49,
+            approved: false,
+        },
+    )
 }
 
-fn check_length(rt: &impl Print, n: u8) -> io::Result<()> {
-    println!(rt; "{n}")
+// The number of a refusal, and 0 where there is none.
+fn check_length(rt: &impl Print, check: Result<(), Refusal>) -> io::Result<()> {
+    match check {
+        Ok(()) => println!(rt; "0"),
+        Err(refusal) => println!(rt; "{}", u8::from(refusal)),
+    }
 }
 
 fn main(rt: HostRuntime) -> io::Result<()> {
