@@ -1,7 +1,8 @@
 // Operations 2 `deposit`, 3 `deposit_with_fee`, 7 `deposit_token` and 9 `deposit_with_failure_report` (lib.rs).
 #![tactic(auto)]
 
-ghost use Rattle.std.specs.Prelude.{◌≡◌, [], ◌+◌, ◌<◌, ◌≤◌, length};
+ghost use Rattle.std.specs.Prelude.{OnOk, ◌≡◌, [], ◌+◌, ◌<◌, ◌≤◌, length};
+ghost use Rattle.refusal.specs.Numbers.{code};
 ghost use Rattle.amount.specs.Biased.{bias, biased};
 ghost use Rattle.image.specs.Layout.{image_length, slot, holding};
 ghost use Rattle.storage.specs.Facts.{Good, Keys};
@@ -15,57 +16,50 @@ ghost use Rattle.deposits.specs.Report.{credited_number, report_outcome, failure
 ghost use Rattle.deposits.specs.TokenDeposit.{token_cap_number, token_funding_number, token_checks, receive_token_number, deposit_token_outcome, deposit_token};
 
 use amount::Amount;
-use outcome::Answer;
+use events::Event;
+use outcome::{Answer, Done};
+use refusal::Refusal;
 
 // 10; 7, 6; 11.
-pub fn funding_check(img: &[u8], t: u8, sequence: u32, n: Amount) -> u8
+pub fn funding_check(img: &[u8], t: u8, sequence: u32, n: Amount) -> Result<(), Refusal>
     requires { (length img.now ≡ image_length) × (48 ≤ t) × (t < 64) × (bias ≤ biased n) }
-    ensures { result ≡ funding_number img.now t sequence (biased n) }
+    ensures { code result ≡ funding_number img.now t sequence (biased n) }
 {
-    let k1 = checks::approved_check(img, t);
-    if k1 != 0 {
-        return k1;
-    }
+    checks::approved_check(img, t)?;
     let held = token::balance(img, t as usize, 1);
-    let k2 = checks::limit_check(held, n, amount::read_amount(img, 8));
-    if k2 != 0 {
-        return k2;
-    }
+    checks::limit_check(held, n, amount::read_amount(img, 8))?;
     storage::check_vault_balance(img, t as usize, sequence, held)
 }
 
 // 7: the sum passes 2 ^ 127 - 1.
-fn overflow_check(a: Amount, n: Amount) -> u8
+fn overflow_check(a: Amount, n: Amount) -> Result<(), Refusal>
     requires { bias ≤ biased n }
-    ensures { result ≡ overflow_number (biased a) (biased n) }
+    ensures { code result ≡ overflow_number (biased a) (biased n) }
 {
     if amount::passes(a, n) != 0 {
-        return 7;
+        return Err(Refusal::ArithmeticOverflow);
     }
-    0
+    Ok(())
 }
 
 // 12: the vault's holding is not the one expected.
-pub fn expected_check(held: Amount, expected: Amount) -> u8
-    ensures { result ≡ expected_number (biased held) (biased expected) }
+pub fn expected_check(held: Amount, expected: Amount) -> Result<(), Refusal>
+    ensures { code result ≡ expected_number (biased held) (biased expected) }
 {
-    if amount::differ(held, expected) != 0 {
-        return 12;
+    if held != expected {
+        return Err(Refusal::DepositTransferFailed);
     }
-    0
+    Ok(())
 }
 
 // 23; 12.
-fn receive(img: &mut [u8], t: u8, from: u8, n: Amount) -> u8
+fn receive(img: &mut [u8], t: u8, from: u8, n: Amount) -> Result<(), Refusal>
     requires { Good img.old × (48 ≤ t) × (t < 64) × (from < 64) × (bias ≤ biased n) × (holding img.old (slot t) 1 + biased n < bias + bias + bias) }
-    ensures value { result ≡ receive_number img.old t from (biased n) }
-    ensures img_after { result ≡ 0 → img.new ≡ transfer_of img.old t from 1 (biased n) }
+    ensures value { code result ≡ receive_number img.old t from (biased n) }
+    ensures img_after { OnOk result (img.new ≡ transfer_of img.old t from 1 (biased n)) }
 {
-    let expected = amount::plus(token::balance(img, t as usize, 1), n);
-    let k = token::transfer(img, t as usize, from as usize, 1, n);
-    if k != 0 {
-        return k;
-    }
+    let expected = token::balance(img, t as usize, 1) + n;
+    token::transfer(img, t as usize, from as usize, 1, n)?;
     expected_check(token::balance(img, t as usize, 1), expected)
 }
 
@@ -80,7 +74,7 @@ fn add_credit(img: &mut [u8], t: u8, account: u8, n: Amount)
     if amount::passes(old, n) != 0 {
         return;
     }
-    storage::set_token_account_balance(img, i, a, amount::plus(old, n));
+    storage::set_token_account_balance(img, i, a, old + n);
 }
 
 // What follows the transfer: credit, snapshot and event.
@@ -92,26 +86,17 @@ fn settle(img: &mut [u8], events: &mut [u8], t: u8, from: u8, sequence: u32, n: 
     let held = token::balance(img, t as usize, 1);
     add_credit(img, t, from, n);
     storage::record_vault_balance(img, t as usize, sequence, held);
-    events::put_event(events, 0, events::deposited(from, n, held));
+    events::put_event(events, 0, Event::Deposited { from, amount: n, new_balance: held });
 }
 
 // 8; 1, 3, 22; 4, 5; 10; 7, 6; 11.
-fn deposit_checks(img: &[u8], caller: u8, signers: u64, sequence: u32, n: Amount) -> u8
+fn deposit_checks(img: &[u8], caller: u8, signers: u64, sequence: u32, n: Amount) -> Result<(), Refusal>
     requires { Good img.now × (caller < 64) }
-    ensures { result ≡ deposit_checks img.now caller signers sequence (biased n) }
+    ensures { code result ≡ deposit_checks img.now caller signers sequence (biased n) }
 {
-    let k1 = checks::paused_check(img);
-    if k1 != 0 {
-        return k1;
-    }
-    let k2 = checks::shared_gate(img, caller, signers);
-    if k2 != 0 {
-        return k2;
-    }
-    let k3 = checks::deposit_amount_check(n);
-    if k3 != 0 {
-        return k3;
-    }
+    checks::paused_check(img)?;
+    checks::shared_gate(img, caller, signers)?;
+    checks::deposit_amount_check(n)?;
     funding_check(img, fields::get8(img, 3), sequence, n)
 }
 
@@ -126,17 +111,11 @@ fn deposit_of(
     requires { Good img.old × (caller < 64) × (events.old ≡ event_buffer []) }
     ensures { Does (deposit_outcome img.old caller signers sequence (biased n)) result img.new events.new }
 {
-    let k = deposit_checks(img, caller, signers, sequence, n);
-    if k != 0 {
-        return outcome::refuse(k);
-    }
+    deposit_checks(img, caller, signers, sequence, n)?;
     let t = fields::get8(img, 3);
-    let j = receive(img, t, caller, n);
-    if j != 0 {
-        return outcome::refuse(j);
-    }
+    receive(img, t, caller, n)?;
     settle(img, events, t, caller, sequence, n);
-    outcome::done(1)
+    Ok(Done::new(1))
 }
 
 pub fn deposit(img: &mut [u8], rec: &[u8], events: &mut [u8]) -> Answer
@@ -150,29 +129,26 @@ pub fn deposit(img: &mut [u8], rec: &[u8], events: &mut [u8]) -> Answer
 }
 
 // 4 of the gross amount and the fee.
-fn fee_check(gross: Amount, fee: Amount) -> u8
-    ensures { result ≡ fee_number (biased gross) (biased fee) }
+fn fee_check(gross: Amount, fee: Amount) -> Result<(), Refusal>
+    ensures { code result ≡ fee_number (biased gross) (biased fee) }
 {
-    if amount::below(fee, amount::zero()) != 0 {
-        return 4;
+    if fee.is_negative() {
+        return Err(Refusal::InvalidAmount);
     }
-    if amount::below(amount::zero(), gross) == 0 {
-        return 4;
+    if !gross.is_positive() {
+        return Err(Refusal::InvalidAmount);
     }
-    if amount::below(fee, gross) == 0 {
-        return 4;
+    if !(fee < gross) {
+        return Err(Refusal::InvalidAmount);
     }
-    0
+    Ok(())
 }
 
 // 4, 5.
-fn gross_check(gross: Amount, fee: Amount) -> u8
-    ensures { result ≡ gross_number (biased gross) (biased fee) }
+fn gross_check(gross: Amount, fee: Amount) -> Result<(), Refusal>
+    ensures { code result ≡ gross_number (biased gross) (biased fee) }
 {
-    let k = fee_check(gross, fee);
-    if k != 0 {
-        return k;
-    }
+    fee_check(gross, fee)?;
     checks::max_deposit_check(gross)
 }
 
@@ -188,17 +164,14 @@ fn deposit_with_fee_of(
     requires { Good img.old × (caller < 64) × (events.old ≡ event_buffer []) }
     ensures { Does (deposit_with_fee_outcome img.old caller signers sequence (biased gross) (biased fee)) result img.new events.new }
 {
-    let k = gross_check(gross, fee);
-    if k != 0 {
-        return outcome::refuse(k);
-    }
-    let net = amount::minus(gross, fee);
+    gross_check(gross, fee)?;
+    let net = gross - fee;
     let a = deposit_of(img, events, caller, signers, sequence, net);
     if a.number != 0 {
         return a;
     }
-    events::put_event(events, 1, events::token_deposited(caller, gross, fee, net));
-    outcome::done(2)
+    events::put_event(events, 1, Event::TokenDeposited { from: caller, gross_amount: gross, fee_amount: fee, net_amount: net });
+    Ok(Done::new(2))
 }
 
 pub fn deposit_with_fee(img: &mut [u8], rec: &[u8], events: &mut [u8]) -> Answer
@@ -221,15 +194,12 @@ pub fn deposit_with_fee(img: &mut [u8], rec: &[u8], events: &mut [u8]) -> Answer
 }
 
 // 12; 7 of the credit, once the transfer is made.
-fn credited_check(img: &[u8], t: u8, from: u8, expected: Amount, n: Amount) -> u8
+fn credited_check(img: &[u8], t: u8, from: u8, expected: Amount, n: Amount) -> Result<(), Refusal>
     requires { (length img.now ≡ image_length) × (48 ≤ t) × (t < 64) × (from < 64) × (bias ≤ biased n) }
-    ensures { result ≡ credited_number img.now t from (biased expected) (biased n) }
+    ensures { code result ≡ credited_number img.now t from (biased expected) (biased n) }
 {
     let i = t as usize;
-    let k = expected_check(token::balance(img, i, 1), expected);
-    if k != 0 {
-        return k;
-    }
+    expected_check(token::balance(img, i, 1), expected)?;
     let credit = storage::get_token_account_balance(img, i, from as usize);
     overflow_check(credit, n)
 }
@@ -239,19 +209,16 @@ fn report(img: &mut [u8], events: &mut [u8], t: u8, from: u8, sequence: u32, n: 
     requires { Good img.old × (48 ≤ t) × (t < 64) × (from < 64) × (bias ≤ biased n) × (holding img.old (slot t) 1 + biased n < bias + bias + bias) × (events.old ≡ event_buffer []) }
     ensures { Does (report_outcome img.old t from sequence (biased n)) result img.new events.new }
 {
-    let expected = amount::plus(token::balance(img, t as usize, 1), n);
+    let expected = token::balance(img, t as usize, 1) + n;
     if token::transfer(img, t as usize, from as usize, 1, n) != 0 {
-        events::put_event(events, 0, events::vault_deposit_failed(from, t, n));
-        return outcome::done(1);
+        events::put_event(events, 0, Event::VaultDepositFailed { from, token: t, amount: n });
+        return Ok(Done::new(1));
     }
-    let k = credited_check(img, t, from, expected, n);
-    if k != 0 {
-        return outcome::refuse(k);
-    }
+    credited_check(img, t, from, expected, n)?;
     settle(img, events, t, from, sequence, n);
     Answer {
         number: 0,
-        value: amount::from_u64(1),
+        value: Amount::from(1),
         events: 1,
     }
 }
@@ -267,10 +234,7 @@ fn deposit_with_failure_report_of(
     requires { Good img.old × (caller < 64) × (events.old ≡ event_buffer []) }
     ensures { Does (failure_report_outcome img.old caller signers sequence (biased n)) result img.new events.new }
 {
-    let k = deposit_checks(img, caller, signers, sequence, n);
-    if k != 0 {
-        return outcome::refuse(k);
-    }
+    deposit_checks(img, caller, signers, sequence, n)?;
     report(img, events, fields::get8(img, 3), caller, sequence, n)
 }
 
@@ -285,73 +249,49 @@ pub fn deposit_with_failure_report(img: &mut [u8], rec: &[u8], events: &mut [u8]
 }
 
 // With a cap: 7, 6.
-fn token_cap_check(img: &[u8], t: u8, held: Amount, n: Amount) -> u8
+fn token_cap_check(img: &[u8], t: u8, held: Amount, n: Amount) -> Result<(), Refusal>
     requires { (length img.now ≡ image_length) × (t < 64) × (bias ≤ biased n) }
-    ensures { result ≡ token_cap_number img.now t (biased held) (biased n) }
+    ensures { code result ≡ token_cap_number img.now t (biased held) (biased n) }
 {
     if checks::has(fields::get64(img, 80), t as u64) != 1 {
-        return 0;
+        return Ok(());
     }
     checks::limit_check(held, n, amount::read_amount(img, 96 + 16 * (t as usize)))
 }
 
 // 10; 23; 11; with a cap 7, 6.
-fn token_funding_check(img: &[u8], t: u8, sequence: u32, n: Amount) -> u8
+fn token_funding_check(img: &[u8], t: u8, sequence: u32, n: Amount) -> Result<(), Refusal>
     requires { (length img.now ≡ image_length) × (t < 64) × (bias ≤ biased n) }
-    ensures { result ≡ token_funding_number img.now t sequence (biased n) }
+    ensures { code result ≡ token_funding_number img.now t sequence (biased n) }
 {
-    let k1 = checks::approved_check(img, t);
-    if k1 != 0 {
-        return k1;
-    }
-    let k2 = token::presence_check(img, t as usize);
-    if k2 != 0 {
-        return k2;
-    }
+    checks::approved_check(img, t)?;
+    token::presence_check(img, t as usize)?;
     let held = token::balance(img, t as usize, 1);
-    let k3 = storage::check_vault_balance(img, t as usize, sequence, held);
-    if k3 != 0 {
-        return k3;
-    }
+    storage::check_vault_balance(img, t as usize, sequence, held)?;
     token_cap_check(img, t, held, n)
 }
 
 // 8; 1, 3, 22; 4, 5; 10; 23; 11; 7, 6.
-fn token_checks(img: &[u8], caller: u8, signers: u64, sequence: u32, t: u8, n: Amount) -> u8
+fn token_checks(img: &[u8], caller: u8, signers: u64, sequence: u32, t: u8, n: Amount) -> Result<(), Refusal>
     requires { (length img.now ≡ image_length) × (caller < 64) × (t < 64) }
-    ensures { result ≡ token_checks img.now caller signers sequence t (biased n) }
+    ensures { code result ≡ token_checks img.now caller signers sequence t (biased n) }
 {
-    let k1 = checks::paused_check(img);
-    if k1 != 0 {
-        return k1;
-    }
-    let k2 = checks::shared_gate(img, caller, signers);
-    if k2 != 0 {
-        return k2;
-    }
-    let k3 = checks::deposit_amount_check(n);
-    if k3 != 0 {
-        return k3;
-    }
+    checks::paused_check(img)?;
+    checks::shared_gate(img, caller, signers)?;
+    checks::deposit_amount_check(n)?;
     token_funding_check(img, t, sequence, n)
 }
 
 // 23; 7; 12; 7 of the credit.
-fn receive_token(img: &mut [u8], t: u8, from: u8, n: Amount) -> u8
+fn receive_token(img: &mut [u8], t: u8, from: u8, n: Amount) -> Result<(), Refusal>
     requires { Good img.old × (48 ≤ t) × (t < 64) × (from < 64) × (bias ≤ biased n) }
-    ensures value { result ≡ receive_token_number img.old t from (biased n) }
-    ensures img_after { result ≡ 0 → img.new ≡ transfer_of img.old t from 1 (biased n) }
+    ensures value { code result ≡ receive_token_number img.old t from (biased n) }
+    ensures img_after { OnOk result (img.new ≡ transfer_of img.old t from 1 (biased n)) }
 {
     let before = token::balance(img, t as usize, 1);
-    let k1 = token::transfer(img, t as usize, from as usize, 1, n);
-    if k1 != 0 {
-        return k1;
-    }
-    let k2 = overflow_check(before, n);
-    if k2 != 0 {
-        return k2;
-    }
-    credited_check(img, t, from, amount::plus(before, n), n)
+    token::transfer(img, t as usize, from as usize, 1, n)?;
+    overflow_check(before, n)?;
+    credited_check(img, t, from, before + n, n)
 }
 
 // What follows the transfer: snapshot, credit and event.
@@ -363,7 +303,7 @@ fn settle_token(img: &mut [u8], events: &mut [u8], t: u8, from: u8, sequence: u3
     let held = token::balance(img, t as usize, 1);
     storage::record_vault_balance(img, t as usize, sequence, held);
     add_credit(img, t, from, n);
-    events::put_event(events, 0, events::deposited(from, n, held));
+    events::put_event(events, 0, Event::Deposited { from, amount: n, new_balance: held });
 }
 
 fn deposit_token_of(
@@ -378,16 +318,10 @@ fn deposit_token_of(
     requires { Good img.old × (caller < 64) × (t < 64) × (events.old ≡ event_buffer []) }
     ensures { Does (deposit_token_outcome img.old caller signers sequence t (biased n)) result img.new events.new }
 {
-    let k = token_checks(img, caller, signers, sequence, t, n);
-    if k != 0 {
-        return outcome::refuse(k);
-    }
-    let j = receive_token(img, t, caller, n);
-    if j != 0 {
-        return outcome::refuse(j);
-    }
+    token_checks(img, caller, signers, sequence, t, n)?;
+    receive_token(img, t, caller, n)?;
     settle_token(img, events, t, caller, sequence, n);
-    outcome::done(1)
+    Ok(Done::new(1))
 }
 
 pub fn deposit_token(img: &mut [u8], rec: &[u8], events: &mut [u8]) -> Answer

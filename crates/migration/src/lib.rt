@@ -1,7 +1,8 @@
 // Operations 21 to 23: the emergency migration of the vault's holding to a destination (lib.rs).
 #![tactic(auto)]
 
-ghost use Rattle.std.specs.Prelude.{◌≡◌, [], ◌<◌, length};
+ghost use Rattle.std.specs.Prelude.{OnOk, ◌≡◌, [], ◌<◌, length};
+ghost use Rattle.refusal.specs.Numbers.{code};
 ghost use Rattle.amount.specs.Biased.{biased};
 ghost use Rattle.image.specs.Layout.{image_length, initialised};
 ghost use Rattle.storage.specs.Facts.{Good};
@@ -11,33 +12,33 @@ ghost use Rattle.outcome.specs.Outcome.{Does, Formed};
 ghost use Rattle.migration.specs.Migration.{proposal_number, initiate_number, initiate_outcome, initiate_emergency_migration, no_migration_number, early_number, execute_checks, migrate_number, migrate_holding, clear_migration, execute_outcome, execute_emergency_migration, cancel_number, cancel_outcome, cancel_emergency_migration};
 
 use amount::Amount;
+use events::Event;
+use image::Flag;
 use outcome::Answer;
+use refusal::Refusal;
 
 // EMERGENCY_MIGRATION_TIMELOCK_SECONDS: 48 hours.
 const TIMELOCK: u64 = 172800;
 
 // 14, 7.
-fn proposal_check(to: u8, time: u64) -> u8
-    ensures { result ≡ proposal_number to time }
+fn proposal_check(to: u8, time: u64) -> Result<(), Refusal>
+    ensures { code result ≡ proposal_number to time }
 {
     if to == 0 {
-        return 14;
+        return Err(Refusal::InvalidParam);
     }
     if 18446744073709551615 - time < TIMELOCK {
-        return 7;
+        return Err(Refusal::ArithmeticOverflow);
     }
-    0
+    Ok(())
 }
 
 // 1, 3, 22; 14, 7.
-fn initiate_check(img: &[u8], caller: u8, signers: u64, to: u8, time: u64) -> u8
+fn initiate_check(img: &[u8], caller: u8, signers: u64, to: u8, time: u64) -> Result<(), Refusal>
     requires { (length img.now ≡ image_length) × (caller < 64) }
-    ensures { result ≡ initiate_number img.now caller signers to time }
+    ensures { code result ≡ initiate_number img.now caller signers to time }
 {
-    let k = checks::owner_gate(img, caller, signers);
-    if k != 0 {
-        return k;
-    }
+    checks::owner_gate(img, caller, signers)?;
     proposal_check(to, time)
 }
 
@@ -52,19 +53,16 @@ fn initiate_emergency_migration_of(
     requires { Good img.old × (caller < 64) × (events.old ≡ event_buffer []) }
     ensures { Does (initiate_outcome img.old caller signers to time) result img.new events.new }
 {
-    let k = initiate_check(img, caller, signers, to, time);
-    if k != 0 {
-        return outcome::refuse(k);
-    }
+    initiate_check(img, caller, signers, to, time)?;
     let executable_at = time + TIMELOCK;
-    storage::set_flag(img, 5);
+    storage::set_flag(img, Flag::Migration);
     fields::put8(img, 7, to);
     fields::put64(img, 56, time);
     fields::put64(img, 64, executable_at);
-    outcome::announce(
+    Ok(outcome::announce(
         events,
-        events::emergency_migration_initiated(caller, to, executable_at),
-    )
+        Event::EmergencyMigrationInitiated { caller, destination: to, executable_at },
+    ))
 }
 
 pub fn initiate_emergency_migration(img: &mut [u8], rec: &[u8], events: &mut [u8]) -> Answer
@@ -78,51 +76,45 @@ pub fn initiate_emergency_migration(img: &mut [u8], rec: &[u8], events: &mut [u8
 }
 
 // 20.
-fn migration_check(img: &[u8]) -> u8
+fn migration_check(img: &[u8]) -> Result<(), Refusal>
     requires { length img.now ≡ image_length }
-    ensures { result ≡ no_migration_number img.now }
+    ensures { code result ≡ no_migration_number img.now }
 {
-    if checks::flag_of(img, 5) != 1 {
-        return 20;
+    if !checks::has_flag(img, Flag::Migration) {
+        return Err(Refusal::NoMigrationProposed);
     }
-    0
+    Ok(())
 }
 
 // 21.
-fn early_check(img: &[u8], time: u64) -> u8
+fn early_check(img: &[u8], time: u64) -> Result<(), Refusal>
     requires { length img.now ≡ image_length }
-    ensures { result ≡ early_number img.now time }
+    ensures { code result ≡ early_number img.now time }
 {
     if time < fields::get64(img, 64) {
-        return 21;
+        return Err(Refusal::TimelockNotExpired);
     }
-    0
+    Ok(())
 }
 
 // 1, 3, 22; 20; 21.
-fn execute_check(img: &[u8], caller: u8, signers: u64, time: u64) -> u8
+fn execute_check(img: &[u8], caller: u8, signers: u64, time: u64) -> Result<(), Refusal>
     requires { (length img.now ≡ image_length) × (caller < 64) }
-    ensures { result ≡ execute_checks img.now caller signers time }
+    ensures { code result ≡ execute_checks img.now caller signers time }
 {
-    let k1 = checks::owner_gate(img, caller, signers);
-    if k1 != 0 {
-        return k1;
-    }
-    let k2 = migration_check(img);
-    if k2 != 0 {
-        return k2;
-    }
+    checks::owner_gate(img, caller, signers)?;
+    migration_check(img)?;
     early_check(img, time)
 }
 
 // 23; a holding of 0 makes no transfer.
-fn migrate_holding(img: &mut [u8], held: Amount) -> u8
+fn migrate_holding(img: &mut [u8], held: Amount) -> Result<(), Refusal>
     requires { Good img.old × (initialised img.old ≡ 1) × (biased held ≡ vault_balance img.old) }
-    ensures value { result ≡ migrate_number img.old }
-    ensures img_after { result ≡ 0 → img.new ≡ migrate_holding img.old }
+    ensures value { code result ≡ migrate_number img.old }
+    ensures img_after { OnOk result (img.new ≡ migrate_holding img.old) }
 {
-    if amount::below(amount::zero(), held) == 0 {
-        return 0;
+    if !held.is_positive() {
+        return Ok(());
     }
     let t = fields::get8(img, 3);
     let to = fields::get8(img, 7);
@@ -133,7 +125,7 @@ fn clear_migration(img: &mut [u8])
     requires { Good img.old }
     ensures { img.new ≡ clear_migration img.old }
 {
-    storage::clear_flag(img, 5);
+    storage::clear_flag(img, Flag::Migration);
     fields::put8(img, 7, 0);
     fields::put64(img, 56, 0);
     fields::put64(img, 64, 0);
@@ -149,22 +141,16 @@ fn execute_emergency_migration_of(
     requires { Good img.old × (caller < 64) × (events.old ≡ event_buffer []) }
     ensures { Does (execute_outcome img.old caller signers time) result img.new events.new }
 {
-    let k = execute_check(img, caller, signers, time);
-    if k != 0 {
-        return outcome::refuse(k);
-    }
+    execute_check(img, caller, signers, time)?;
     let to = fields::get8(img, 7);
     let held = token::vault_balance(img);
-    let j = migrate_holding(img, held);
-    if j != 0 {
-        return outcome::refuse(j);
-    }
+    migrate_holding(img, held)?;
     clear_migration(img);
-    outcome::announce_value(
+    Ok(outcome::announce_value(
         events,
-        events::emergency_migration_executed(caller, to, held),
+        Event::EmergencyMigrationExecuted { caller, destination: to, amount: held },
         held,
-    )
+    ))
 }
 
 pub fn execute_emergency_migration(img: &mut [u8], rec: &[u8], events: &mut [u8]) -> Answer
@@ -177,14 +163,11 @@ pub fn execute_emergency_migration(img: &mut [u8], rec: &[u8], events: &mut [u8]
 }
 
 // 1, 3, 22; 20.
-fn cancel_check(img: &[u8], caller: u8, signers: u64) -> u8
+fn cancel_check(img: &[u8], caller: u8, signers: u64) -> Result<(), Refusal>
     requires { (length img.now ≡ image_length) × (caller < 64) }
-    ensures { result ≡ cancel_number img.now caller signers }
+    ensures { code result ≡ cancel_number img.now caller signers }
 {
-    let k = checks::owner_gate(img, caller, signers);
-    if k != 0 {
-        return k;
-    }
+    checks::owner_gate(img, caller, signers)?;
     migration_check(img)
 }
 
@@ -197,12 +180,9 @@ fn cancel_emergency_migration_of(
     requires { Good img.old × (caller < 64) × (events.old ≡ event_buffer []) }
     ensures { Does (cancel_outcome img.old caller signers) result img.new events.new }
 {
-    let k = cancel_check(img, caller, signers);
-    if k != 0 {
-        return outcome::refuse(k);
-    }
+    cancel_check(img, caller, signers)?;
     clear_migration(img);
-    outcome::announce(events, events::emergency_migration_cancelled(caller))
+    Ok(outcome::announce(events, Event::EmergencyMigrationCancelled { caller }))
 }
 
 pub fn cancel_emergency_migration(img: &mut [u8], rec: &[u8], events: &mut [u8]) -> Answer

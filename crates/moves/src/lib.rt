@@ -2,6 +2,7 @@
 #![tactic(auto)]
 
 ghost use Rattle.std.specs.Prelude.{◌≡◌, [], ◌<◌, length};
+ghost use Rattle.refusal.specs.Numbers.{code};
 ghost use Rattle.amount.specs.Biased.{biased};
 ghost use Rattle.image.specs.Layout.{image_length};
 ghost use Rattle.storage.specs.Facts.{Good};
@@ -10,26 +11,24 @@ ghost use Rattle.outcome.specs.Outcome.{Does, Formed};
 ghost use Rattle.moves.specs.Outside.{sender_number, outside_move_checks, outside_move_outcome, outside_move, freeze_number, frozen_kind, freeze_outcome, freeze};
 
 use amount::Amount;
-use outcome::Answer;
+use outcome::{Answer, Done};
+use refusal::Refusal;
 
 // 14.
-fn sender_check(caller: u8) -> u8
-    ensures { result ≡ sender_number caller }
+fn sender_check(caller: u8) -> Result<(), Refusal>
+    ensures { code result ≡ sender_number caller }
 {
     if caller == 1 {
-        return 14;
+        return Err(Refusal::InvalidParam);
     }
-    0
+    Ok(())
 }
 
 // 14; 4.
-fn outside_move_check(caller: u8, n: Amount) -> u8
-    ensures { result ≡ outside_move_checks caller (biased n) }
+fn outside_move_check(caller: u8, n: Amount) -> Result<(), Refusal>
+    ensures { code result ≡ outside_move_checks caller (biased n) }
 {
-    let k = sender_check(caller);
-    if k != 0 {
-        return k;
-    }
+    sender_check(caller)?;
     checks::amount_check(n)
 }
 
@@ -44,15 +43,9 @@ fn outside_move_of(
     requires { Good img.old × (caller < 64) × (to < 64) × (events.old ≡ event_buffer []) }
     ensures { Does (outside_move_outcome img.old caller t to (biased n)) result img.new events.new }
 {
-    let k = outside_move_check(caller, n);
-    if k != 0 {
-        return outcome::refuse(k);
-    }
-    let j = token::transfer(img, t as usize, caller as usize, to as usize, n);
-    if j != 0 {
-        return outcome::refuse(j);
-    }
-    outcome::done(0)
+    outside_move_check(caller, n)?;
+    token::transfer(img, t as usize, caller as usize, to as usize, n)?;
+    Ok(Done::new(0))
 }
 
 pub fn outside_move(img: &mut [u8], rec: &[u8], events: &mut [u8]) -> Answer
@@ -66,14 +59,14 @@ pub fn outside_move(img: &mut [u8], rec: &[u8], events: &mut [u8]) -> Answer
 }
 
 // 14.
-fn freeze_check(img: &[u8], t: u8) -> u8
+fn freeze_check(img: &[u8], t: u8) -> Result<(), Refusal>
     requires { length img.now ≡ image_length }
-    ensures { result ≡ freeze_number img.now t }
+    ensures { code result ≡ freeze_number img.now t }
 {
-    if token::presence_check(img, t as usize) != 0 {
-        return 14;
+    if token::presence_check(img, t as usize).is_err() {
+        return Err(Refusal::InvalidParam);
     }
-    0
+    Ok(())
 }
 
 fn frozen_kind(on: u8) -> u64
@@ -89,13 +82,10 @@ fn freeze_of(img: &mut [u8], events: &mut [u8], t: u8, on: u8) -> Answer
     requires { Good img.old × (events.old ≡ event_buffer []) }
     ensures { Does (freeze_outcome img.old t on) result img.new events.new }
 {
-    let k = freeze_check(img, t);
-    if k != 0 {
-        return outcome::refuse(k);
-    }
+    freeze_check(img, t)?;
     let i = t as usize;
     fields::put64(img, 3680 + 24 * (i - 48), frozen_kind(on));
-    outcome::done(0)
+    Ok(Done::new(0))
 }
 
 pub fn freeze(img: &mut [u8], rec: &[u8], events: &mut [u8]) -> Answer

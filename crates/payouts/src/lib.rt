@@ -1,7 +1,8 @@
 // Operations 5 `withdraw`, 6 `withdraw_batch` and 8 `withdraw_token` (lib.rs).
 #![tactic(auto)]
 
-ghost use Rattle.std.specs.Prelude.{◌≡◌, [], ◌∷◌, ◌<◌, ◌≤◌, length};
+ghost use Rattle.std.specs.Prelude.{OnOk, ◌≡◌, [], ◌∷◌, ◌<◌, ◌≤◌, length};
+ghost use Rattle.refusal.specs.Numbers.{code};
 ghost use Rattle.amount.specs.Biased.{bias, biased, num};
 ghost use Rattle.image.specs.Layout.{image_length, slot, holding, initialised};
 ghost use Rattle.storage.specs.Facts.{Good, Keys};
@@ -15,63 +16,46 @@ ghost use Rattle.payouts.specs.Token.{credit_number, take_credit, withdraw_token
 ghost use Rattle.payouts.specs.Parts.{Pays, Addressed, Payable};
 
 use amount::Amount;
-use outcome::Answer;
+use events::Event;
+use outcome::{Answer, Done};
+use refusal::Refusal;
 
-// A sum of amounts, or the number of the first refusal on the way.
-#[derive(Clone, Copy)]
-struct Tally {
-    number: u8,
-    sum: Amount,
-}
-
-// 4; 7.
-fn item_check(sum: Amount, n: Amount) -> u8
-    ensures { result ≡ item_number (biased sum) (biased n) }
+// The sum of what came before and an item's amount: 4; 7.
+fn add_item(sum: Amount, n: Amount) -> Result<Amount, Refusal>
+    ensures number { code result ≡ item_number (biased sum) (biased n) }
+    ensures total { IfOk result (λ t. biased t ≡ biased sum + biased n - bias) }
 {
-    if amount::below(amount::zero(), n) == 0 {
-        return 4;
+    if !n.is_positive() {
+        return Err(Refusal::InvalidAmount);
     }
-    if amount::passes(sum, n) != 0 {
-        return 7;
-    }
-    0
+    sum.checked_add(n).ok_or(Refusal::ArithmeticOverflow)
 }
 
 // Item by item 4, 7.
-fn add_items(rec: &[u8], count: usize) -> Tally
+fn add_items(rec: &[u8], count: usize) -> Result<Amount, Refusal>
     requires { (length rec.now ≡ 448) × (count ≤ 16) }
-    ensures number_value { result.number ≡ items_number (items count 0 rec.now) bias }
-    ensures sum_value { result.number ≡ 0 → biased result.sum ≡ items_sum (items count 0 rec.now) bias }
+    ensures number { code result ≡ items_number (items count 0 rec.now) bias }
+    ensures total { IfOk result (λ t. biased t ≡ items_sum (items count 0 rec.now) bias) }
 {
-    let mut sum = amount::zero();
-    let mut i: usize = 0;
-    while i < count {
-        let n = record::item_amount(rec, i);
-        let k = item_check(sum, n);
-        if k != 0 {
-            return Tally { number: k, sum };
-        }
-        sum = amount::plus(sum, n);
-        i += 1;
+    let mut sum = Amount::ZERO;
+    for i in 0..count {
+        sum = add_item(sum, record::item_amount(rec, i))?;
     }
-    Tally { number: 0, sum }
+    Ok(sum)
 }
 
 // 23; 13.
-fn send(img: &mut [u8], t: u8, to: u8, n: Amount) -> u8
+fn send(img: &mut [u8], t: u8, to: u8, n: Amount) -> Result<(), Refusal>
     requires { Good img.old × (48 ≤ t) × (t < 64) × (to < 64) × (bias ≤ biased n) }
-    ensures value { result ≡ pay_number img.old t to (biased n) }
-    ensures img_after { result ≡ 0 → img.new ≡ transfer_of img.old t 1 to (biased n) }
+    ensures value { code result ≡ pay_number img.old t to (biased n) }
+    ensures img_after { OnOk result (img.new ≡ transfer_of img.old t 1 to (biased n)) }
 {
     let held = token::balance(img, t as usize, 1);
-    let k = token::transfer(img, t as usize, 1, to as usize, n);
-    if k != 0 {
-        return k;
+    token::transfer(img, t as usize, 1, to as usize, n)?;
+    if token::balance(img, t as usize, 1) != held - n {
+        return Err(Refusal::WithdrawTransferFailed);
     }
-    if amount::differ(token::balance(img, t as usize, 1), amount::minus(held, n)) != 0 {
-        return 13;
-    }
-    0
+    Ok(())
 }
 
 // One payout, its event in place i.
@@ -85,20 +69,17 @@ fn pay(
     by_operator: bool,
     to: u8,
     n: Amount,
-) -> u8
+) -> Result<(), Refusal>
     requires { Good img.old × (length events.old ≡ 896) × (i < 16) × (48 ≤ t) × (t < 64) × (to < 64) × (bias ≤ biased n) }
     ensures { Pays (payout to (biased n) ∷ []) t sequence caller (num by_operator) img.old events.old i result img.new events.new }
 {
-    let k = send(img, t, to, n);
-    if k != 0 {
-        return k;
-    }
+    send(img, t, to, n)?;
     let held = token::balance(img, t as usize, 1);
     storage::record_vault_balance(img, t as usize, sequence, held);
     events::put_event(
         events,
         i,
-        events::withdrawn(caller, to, n, held, by_operator),
+        Event::Withdrawn { caller, to, amount: n, new_balance: held, by_operator },
     );
     0
 }
@@ -113,89 +94,58 @@ fn pay_items(
     sequence: u32,
     caller: u8,
     by_operator: bool,
-) -> u8
+) -> Result<(), Refusal>
     requires { Good img.old × (initialised img.old ≡ 1) × (length events.old ≡ 896) × (length rec.now ≡ 448) × (count ≤ 16) × (48 ≤ t) × (t < 64) × Payable (items count 0 rec.now) }
     ensures { Pays (items count 0 rec.now) t sequence caller (num by_operator) img.old events.old 0 result img.new events.new }
 {
-    let mut i: usize = 0;
-    while i < count {
+    for i in 0..count {
         let to = record::item_address(rec, i);
         let n = record::item_amount(rec, i);
-        let k = pay(img, events, i, t, sequence, caller, by_operator, to, n);
-        if k != 0 {
-            return k;
-        }
-        i += 1;
+        pay(img, events, i, t, sequence, caller, by_operator, to, n)?;
     }
-    0
+    Ok(())
 }
 
 // 8; 1, 3, 22; 4; 6; 6.
-fn withdraw_checks(img: &[u8], caller: u8, signers: u64, to: u8, n: Amount) -> u8
+fn withdraw_checks(img: &[u8], caller: u8, signers: u64, to: u8, n: Amount) -> Result<(), Refusal>
     requires { Good img.now × (caller < 64) }
-    ensures { result ≡ withdraw_checks img.now caller signers (payout to (biased n) ∷ []) }
+    ensures { code result ≡ withdraw_checks img.now caller signers (payout to (biased n) ∷ []) }
 {
-    let k1 = checks::paused_check(img);
-    if k1 != 0 {
-        return k1;
-    }
-    let k2 = checks::shared_gate(img, caller, signers);
-    if k2 != 0 {
-        return k2;
-    }
-    let k3 = checks::amount_check(n);
-    if k3 != 0 {
-        return k3;
-    }
-    let k4 = checks::cap_check(img, caller, n);
-    if k4 != 0 {
-        return k4;
-    }
+    checks::paused_check(img)?;
+    checks::shared_gate(img, caller, signers)?;
+    checks::amount_check(n)?;
+    checks::cap_check(img, caller, n)?;
     checks::funds_check(token::balance(img, fields::get8(img, 3) as usize, 1), n)
 }
 
 // 8; 1, 3, 22; 4; item by item 4, 7; 6; 6.
-fn batch_checks(img: &[u8], rec: &[u8], count: usize, caller: u8, signers: u64) -> u8
+fn batch_checks(img: &[u8], rec: &[u8], count: usize, caller: u8, signers: u64) -> Result<(), Refusal>
     requires { Good img.now × (length rec.now ≡ 448) × (count ≤ 16) × (caller < 64) }
-    ensures { result ≡ withdraw_checks img.now caller signers (items count 0 rec.now) }
+    ensures { code result ≡ withdraw_checks img.now caller signers (items count 0 rec.now) }
 {
-    let k1 = checks::paused_check(img);
-    if k1 != 0 {
-        return k1;
-    }
-    let k2 = checks::shared_gate(img, caller, signers);
-    if k2 != 0 {
-        return k2;
-    }
+    checks::paused_check(img)?;
+    checks::shared_gate(img, caller, signers)?;
     if count == 0 {
-        return 4;
+        return Err(Refusal::InvalidAmount);
     }
-    let tally = add_items(rec, count);
-    let k3 = tally.number;
-    if k3 != 0 {
-        return k3;
-    }
-    let sum = tally.sum;
-    let k4 = checks::cap_check(img, caller, sum);
-    if k4 != 0 {
-        return k4;
-    }
+    let sum = add_items(rec, count)?;
+    checks::cap_check(img, caller, sum)?;
     checks::funds_check(token::balance(img, fields::get8(img, 3) as usize, 1), sum)
 }
 
 // 6: not the owner, and the credit is below the amount.
-fn credit_check(img: &[u8], t: u8, caller: u8, n: Amount) -> u8
+fn credit_check(img: &[u8], t: u8, caller: u8, n: Amount) -> Result<(), Refusal>
     requires { (length img.now ≡ image_length) × (48 ≤ t) × (t < 64) × (caller < 64) }
-    ensures { result ≡ credit_number img.now t caller (biased n) }
+    ensures { code result ≡ credit_number img.now t caller (biased n) }
 {
     if fields::get8(img, 2) == caller {
-        return 0;
+        return Ok(());
     }
     let credit = storage::get_token_account_balance(img, t as usize, caller as usize);
-    if amount::below(credit, n) != 0 {
-        return 6;
+    if credit < n {
+        return Err(Refusal::LimitExceeded);
     }
-    0
+    Ok(())
 }
 
 // A credit is lowered only where it covers the amount.
@@ -206,10 +156,10 @@ fn take_credit(img: &mut [u8], t: u8, account: u8, n: Amount)
     let i = t as usize;
     let a = account as usize;
     let credit = storage::get_token_account_balance(img, i, a);
-    if amount::below(credit, n) != 0 {
+    if credit < n {
         return;
     }
-    storage::set_token_account_balance(img, i, a, amount::minus(credit, n));
+    storage::set_token_account_balance(img, i, a, credit - n);
 }
 
 // What follows the transfer: credit, snapshot and event.
@@ -233,39 +183,21 @@ fn settle(
     events::put_event(
         events,
         0,
-        events::withdrawn(caller, to, n, held, by_operator),
+        Event::Withdrawn { caller, to, amount: n, new_balance: held, by_operator },
     );
 }
 
 // 8; 1, 3, 22; 4; 6; 23; 6; 6.
-fn withdraw_token_checks(img: &[u8], t: u8, caller: u8, signers: u64, n: Amount) -> u8
+fn withdraw_token_checks(img: &[u8], t: u8, caller: u8, signers: u64, n: Amount) -> Result<(), Refusal>
     requires { Good img.now × (caller < 64) }
-    ensures { result ≡ withdraw_token_checks img.now t caller signers (biased n) }
+    ensures { code result ≡ withdraw_token_checks img.now t caller signers (biased n) }
 {
-    let k1 = checks::paused_check(img);
-    if k1 != 0 {
-        return k1;
-    }
-    let k2 = checks::shared_gate(img, caller, signers);
-    if k2 != 0 {
-        return k2;
-    }
-    let k3 = checks::amount_check(n);
-    if k3 != 0 {
-        return k3;
-    }
-    let k4 = checks::cap_check(img, caller, n);
-    if k4 != 0 {
-        return k4;
-    }
-    let k5 = token::presence_check(img, t as usize);
-    if k5 != 0 {
-        return k5;
-    }
-    let k6 = checks::funds_check(token::balance(img, t as usize, 1), n);
-    if k6 != 0 {
-        return k6;
-    }
+    checks::paused_check(img)?;
+    checks::shared_gate(img, caller, signers)?;
+    checks::amount_check(n)?;
+    checks::cap_check(img, caller, n)?;
+    token::presence_check(img, t as usize)?;
+    checks::funds_check(token::balance(img, t as usize, 1), n)?;
     credit_check(img, t, caller, n)
 }
 
@@ -281,17 +213,11 @@ fn withdraw_of(
     requires { Good img.old × (caller < 64) × (to < 64) × (events.old ≡ event_buffer []) }
     ensures { Does (withdraw_outcome img.old caller signers sequence (payout to (biased n) ∷ [])) result img.new events.new }
 {
-    let k = withdraw_checks(img, caller, signers, to, n);
-    if k != 0 {
-        return outcome::refuse(k);
-    }
+    withdraw_checks(img, caller, signers, to, n)?;
     let t = fields::get8(img, 3);
     let by_operator = fields::get8(img, 2) != caller;
-    let j = pay(img, events, 0, t, sequence, caller, by_operator, to, n);
-    if j != 0 {
-        return outcome::refuse(j);
-    }
-    outcome::done(1)
+    pay(img, events, 0, t, sequence, caller, by_operator, to, n)?;
+    Ok(Done::new(1))
 }
 
 fn withdraw_batch_of(
@@ -307,13 +233,10 @@ fn withdraw_batch_of(
     requires addressed { Addressed (items count 0 rec.now) }
     ensures { Does (withdraw_outcome img.old caller signers sequence (items count 0 rec.now)) result img.new events.new }
 {
-    let k = batch_checks(img, rec, count as usize, caller, signers);
-    if k != 0 {
-        return outcome::refuse(k);
-    }
+    batch_checks(img, rec, count as usize, caller, signers)?;
     let t = fields::get8(img, 3);
     let by_operator = fields::get8(img, 2) != caller;
-    let j = pay_items(
+    pay_items(
         img,
         events,
         rec,
@@ -322,11 +245,8 @@ fn withdraw_batch_of(
         sequence,
         caller,
         by_operator,
-    );
-    if j != 0 {
-        return outcome::refuse(j);
-    }
-    outcome::done(count)
+    )?;
+    Ok(Done::new(count))
 }
 
 fn withdraw_token_of(
@@ -342,17 +262,11 @@ fn withdraw_token_of(
     requires { Good img.old × (caller < 64) × (to < 64) × (events.old ≡ event_buffer []) }
     ensures { Does (withdraw_token_outcome img.old t caller signers sequence to (biased n)) result img.new events.new }
 {
-    let k = withdraw_token_checks(img, t, caller, signers, n);
-    if k != 0 {
-        return outcome::refuse(k);
-    }
+    withdraw_token_checks(img, t, caller, signers, n)?;
     let by_operator = fields::get8(img, 2) != caller;
-    let j = send(img, t, to, n);
-    if j != 0 {
-        return outcome::refuse(j);
-    }
+    send(img, t, to, n)?;
     settle(img, events, t, sequence, caller, by_operator, to, n);
-    outcome::done(1)
+    Ok(Done::new(1))
 }
 
 // Operation 5.

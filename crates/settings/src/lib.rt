@@ -2,6 +2,7 @@
 #![tactic(auto)]
 
 ghost use Rattle.std.specs.Prelude.{◌≡◌, [], ◌<◌, length};
+ghost use Rattle.refusal.specs.Numbers.{code};
 ghost use Rattle.amount.specs.Biased.{biased};
 ghost use Rattle.image.specs.Layout.{image_length, initialised};
 ghost use Rattle.storage.specs.Facts.{Good};
@@ -10,21 +11,18 @@ ghost use Rattle.outcome.specs.Outcome.{Does, Formed};
 ghost use Rattle.settings.specs.Settings.{operator_limit_number, operator_limit_outcome, set_operator_withdraw_limit, below_holding_number, limit_role_number, limit_set_number, limit_set_outcome, set_limit, token_max_limit_number, token_max_limit_outcome, set_token_max_limit, operator_set_outcome, set_operator, operator_revoked_outcome, revoke_operator, already_paused_number, pause_number, pause_outcome, pause, not_paused_number, unpause_number, unpause_outcome, unpause};
 
 use amount::Amount;
-use outcome::Answer;
+use events::Event;
+use image::Flag;
+use outcome::{Answer, Done};
+use refusal::Refusal;
 
 // 8; 1, 3, 22; 4.
-fn operator_limit_check(img: &[u8], caller: u8, signers: u64, n: Amount) -> u8
+fn operator_limit_check(img: &[u8], caller: u8, signers: u64, n: Amount) -> Result<(), Refusal>
     requires { (length img.now ≡ image_length) × (caller < 64) }
-    ensures { result ≡ operator_limit_number img.now caller signers (biased n) }
+    ensures { code result ≡ operator_limit_number img.now caller signers (biased n) }
 {
-    let k1 = checks::paused_check(img);
-    if k1 != 0 {
-        return k1;
-    }
-    let k2 = checks::owner_gate(img, caller, signers);
-    if k2 != 0 {
-        return k2;
-    }
+    checks::paused_check(img)?;
+    checks::owner_gate(img, caller, signers)?;
     checks::amount_check(n)
 }
 
@@ -38,14 +36,11 @@ fn set_operator_withdraw_limit_of(
     requires { Good img.old × (caller < 64) × (events.old ≡ event_buffer []) }
     ensures { Does (operator_limit_outcome img.old caller signers (biased n)) result img.new events.new }
 {
-    let k = operator_limit_check(img, caller, signers, n);
-    if k != 0 {
-        return outcome::refuse(k);
-    }
+    operator_limit_check(img, caller, signers, n)?;
     let old = amount::read_amount(img, 24);
-    storage::set_flag(img, 3);
+    storage::set_flag(img, Flag::OperatorLimit);
     amount::write_amount(img, 24, n);
-    outcome::announce(events, events::operator_withdraw_limit_set(caller, old, n))
+    Ok(outcome::announce(events, Event::OperatorWithdrawLimitSet { caller, old_limit: old, new_limit: n }))
 }
 
 pub fn set_operator_withdraw_limit(img: &mut [u8], rec: &[u8], events: &mut [u8]) -> Answer
@@ -58,52 +53,37 @@ pub fn set_operator_withdraw_limit(img: &mut [u8], rec: &[u8], events: &mut [u8]
 }
 
 // 6: below the vault's holding of the default token.
-fn below_holding_check(img: &[u8], n: Amount) -> u8
+fn below_holding_check(img: &[u8], n: Amount) -> Result<(), Refusal>
     requires { Good img.now × (initialised img.now ≡ 1) }
-    ensures { result ≡ below_holding_number img.now (biased n) }
+    ensures { code result ≡ below_holding_number img.now (biased n) }
 {
-    if amount::below(n, token::vault_balance(img)) != 0 {
-        return 6;
+    if n < token::vault_balance(img) {
+        return Err(Refusal::LimitExceeded);
     }
-    0
+    Ok(())
 }
 
 // Raising is for the owner only.
-fn limit_role_check(img: &[u8], caller: u8, n: Amount) -> u8
+fn limit_role_check(img: &[u8], caller: u8, n: Amount) -> Result<(), Refusal>
     requires { length img.now ≡ image_length }
-    ensures { result ≡ limit_role_number img.now caller (biased n) }
+    ensures { code result ≡ limit_role_number img.now caller (biased n) }
 {
-    if amount::below(amount::read_amount(img, 8), n) != 0 {
+    if amount::read_amount(img, 8) < n {
         return checks::owner_role_check(img, caller);
     }
     checks::insider_role_check(img, caller)
 }
 
 // 8; 1; 4; 6; 3; 22.
-fn limit_check(img: &[u8], caller: u8, signers: u64, n: Amount) -> u8
+fn limit_check(img: &[u8], caller: u8, signers: u64, n: Amount) -> Result<(), Refusal>
     requires { Good img.now × (caller < 64) }
-    ensures { result ≡ limit_set_number img.now caller signers (biased n) }
+    ensures { code result ≡ limit_set_number img.now caller signers (biased n) }
 {
-    let k1 = checks::paused_check(img);
-    if k1 != 0 {
-        return k1;
-    }
-    let k2 = checks::initialised_check(img);
-    if k2 != 0 {
-        return k2;
-    }
-    let k3 = checks::amount_check(n);
-    if k3 != 0 {
-        return k3;
-    }
-    let k4 = below_holding_check(img, n);
-    if k4 != 0 {
-        return k4;
-    }
-    let k5 = limit_role_check(img, caller, n);
-    if k5 != 0 {
-        return k5;
-    }
+    checks::paused_check(img)?;
+    checks::initialised_check(img)?;
+    checks::amount_check(n)?;
+    below_holding_check(img, n)?;
+    limit_role_check(img, caller, n)?;
     checks::signed_check(signers, caller)
 }
 
@@ -111,13 +91,10 @@ fn set_limit_of(img: &mut [u8], events: &mut [u8], caller: u8, signers: u64, n: 
     requires { Good img.old × (caller < 64) × (events.old ≡ event_buffer []) }
     ensures { Does (limit_set_outcome img.old caller signers (biased n)) result img.new events.new }
 {
-    let k = limit_check(img, caller, signers, n);
-    if k != 0 {
-        return outcome::refuse(k);
-    }
+    limit_check(img, caller, signers, n)?;
     let old = amount::read_amount(img, 8);
     amount::write_amount(img, 8, n);
-    outcome::announce(events, events::limit_set(caller, old, n))
+    Ok(outcome::announce(events, Event::LimitSet { caller, old_limit: old, new_limit: n }))
 }
 
 pub fn set_limit(img: &mut [u8], rec: &[u8], events: &mut [u8]) -> Answer
@@ -130,18 +107,12 @@ pub fn set_limit(img: &mut [u8], rec: &[u8], events: &mut [u8]) -> Answer
 }
 
 // 8; 1, 3, 22; 4.
-fn token_max_limit_check(img: &[u8], caller: u8, signers: u64, n: Amount) -> u8
+fn token_max_limit_check(img: &[u8], caller: u8, signers: u64, n: Amount) -> Result<(), Refusal>
     requires { (length img.now ≡ image_length) × (caller < 64) }
-    ensures { result ≡ token_max_limit_number img.now caller signers (biased n) }
+    ensures { code result ≡ token_max_limit_number img.now caller signers (biased n) }
 {
-    let k1 = checks::paused_check(img);
-    if k1 != 0 {
-        return k1;
-    }
-    let k2 = checks::shared_gate(img, caller, signers);
-    if k2 != 0 {
-        return k2;
-    }
+    checks::paused_check(img)?;
+    checks::shared_gate(img, caller, signers)?;
     checks::amount_check(n)
 }
 
@@ -156,12 +127,9 @@ fn set_token_max_limit_of(
     requires { Good img.old × (caller < 64) × (t < 64) × (events.old ≡ event_buffer []) }
     ensures { Does (token_max_limit_outcome img.old caller t signers (biased n)) result img.new events.new }
 {
-    let k = token_max_limit_check(img, caller, signers, n);
-    if k != 0 {
-        return outcome::refuse(k);
-    }
+    token_max_limit_check(img, caller, signers, n)?;
     storage::set_token_max_limit(img, t as usize, n);
-    outcome::done(0)
+    Ok(Done::new(0))
 }
 
 pub fn set_token_max_limit(img: &mut [u8], rec: &[u8], events: &mut [u8]) -> Answer
@@ -184,13 +152,10 @@ fn set_operator_of(
     requires { Good img.old × (caller < 64) × (events.old ≡ event_buffer []) }
     ensures { Does (operator_set_outcome img.old caller signers operator) result img.new events.new }
 {
-    let k = checks::owner_gate(img, caller, signers);
-    if k != 0 {
-        return outcome::refuse(k);
-    }
-    storage::set_flag(img, 2);
+    checks::owner_gate(img, caller, signers)?;
+    storage::set_flag(img, Flag::Operator);
     fields::put8(img, 4, operator);
-    outcome::announce(events, events::operator_set(caller, operator))
+    Ok(outcome::announce(events, Event::OperatorSet { caller, operator }))
 }
 
 pub fn set_operator(img: &mut [u8], rec: &[u8], events: &mut [u8]) -> Answer
@@ -206,13 +171,10 @@ fn revoke_operator_of(img: &mut [u8], events: &mut [u8], caller: u8, signers: u6
     requires { Good img.old × (caller < 64) × (events.old ≡ event_buffer []) }
     ensures { Does (operator_revoked_outcome img.old caller signers) result img.new events.new }
 {
-    let k = checks::owner_gate(img, caller, signers);
-    if k != 0 {
-        return outcome::refuse(k);
-    }
-    storage::clear_flag(img, 2);
+    checks::owner_gate(img, caller, signers)?;
+    storage::clear_flag(img, Flag::Operator);
     fields::put8(img, 4, 0);
-    outcome::announce(events, events::operator_revoked(caller))
+    Ok(outcome::announce(events, Event::OperatorRevoked { caller }))
 }
 
 pub fn revoke_operator(img: &mut [u8], rec: &[u8], events: &mut [u8]) -> Answer
@@ -224,37 +186,31 @@ pub fn revoke_operator(img: &mut [u8], rec: &[u8], events: &mut [u8]) -> Answer
 }
 
 // 1, 3, 22; 18.
-fn pause_check(img: &[u8], caller: u8, signers: u64) -> u8
+fn pause_check(img: &[u8], caller: u8, signers: u64) -> Result<(), Refusal>
     requires { (length img.now ≡ image_length) × (caller < 64) }
-    ensures { result ≡ pause_number img.now caller signers }
+    ensures { code result ≡ pause_number img.now caller signers }
 {
-    let k = checks::owner_gate(img, caller, signers);
-    if k != 0 {
-        return k;
-    }
+    checks::owner_gate(img, caller, signers)?;
     already_paused_check(img)
 }
 
-fn already_paused_check(img: &[u8]) -> u8
+fn already_paused_check(img: &[u8]) -> Result<(), Refusal>
     requires { length img.now ≡ image_length }
-    ensures { result ≡ already_paused_number img.now }
+    ensures { code result ≡ already_paused_number img.now }
 {
-    if checks::flag_of(img, 1) == 1 {
-        return 18;
+    if checks::has_flag(img, Flag::Paused) {
+        return Err(Refusal::AlreadyPaused);
     }
-    0
+    Ok(())
 }
 
 fn pause_of(img: &mut [u8], events: &mut [u8], caller: u8, signers: u64, time: u64) -> Answer
     requires { Good img.old × (caller < 64) × (events.old ≡ event_buffer []) }
     ensures { Does (pause_outcome img.old caller signers time) result img.new events.new }
 {
-    let k = pause_check(img, caller, signers);
-    if k != 0 {
-        return outcome::refuse(k);
-    }
-    storage::set_flag(img, 1);
-    outcome::announce(events, events::paused(caller, time))
+    pause_check(img, caller, signers)?;
+    storage::set_flag(img, Flag::Paused);
+    Ok(outcome::announce(events, Event::Paused { caller, paused_at: time }))
 }
 
 pub fn pause(img: &mut [u8], rec: &[u8], events: &mut [u8]) -> Answer
@@ -266,25 +222,22 @@ pub fn pause(img: &mut [u8], rec: &[u8], events: &mut [u8]) -> Answer
     pause_of(img, events, caller, signers, record::timestamp(rec))
 }
 
-fn not_paused_check(img: &[u8]) -> u8
+fn not_paused_check(img: &[u8]) -> Result<(), Refusal>
     requires { length img.now ≡ image_length }
-    ensures { result ≡ not_paused_number img.now }
+    ensures { code result ≡ not_paused_number img.now }
 {
-    if checks::flag_of(img, 1) != 1 {
-        return 19;
+    if !checks::has_flag(img, Flag::Paused) {
+        return Err(Refusal::NotPaused);
     }
-    0
+    Ok(())
 }
 
 // 1, 3, 22; 19.
-fn unpause_check(img: &[u8], caller: u8, signers: u64) -> u8
+fn unpause_check(img: &[u8], caller: u8, signers: u64) -> Result<(), Refusal>
     requires { (length img.now ≡ image_length) × (caller < 64) }
-    ensures { result ≡ unpause_number img.now caller signers }
+    ensures { code result ≡ unpause_number img.now caller signers }
 {
-    let k = checks::owner_gate(img, caller, signers);
-    if k != 0 {
-        return k;
-    }
+    checks::owner_gate(img, caller, signers)?;
     not_paused_check(img)
 }
 
@@ -292,12 +245,9 @@ fn unpause_of(img: &mut [u8], events: &mut [u8], caller: u8, signers: u64, time:
     requires { Good img.old × (caller < 64) × (events.old ≡ event_buffer []) }
     ensures { Does (unpause_outcome img.old caller signers time) result img.new events.new }
 {
-    let k = unpause_check(img, caller, signers);
-    if k != 0 {
-        return outcome::refuse(k);
-    }
-    storage::clear_flag(img, 1);
-    outcome::announce(events, events::unpaused(caller, time))
+    unpause_check(img, caller, signers)?;
+    storage::clear_flag(img, Flag::Paused);
+    Ok(outcome::announce(events, Event::Unpaused { caller, resumed_at: time }))
 }
 
 pub fn unpause(img: &mut [u8], rec: &[u8], events: &mut [u8]) -> Answer

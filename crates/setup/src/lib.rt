@@ -2,6 +2,7 @@
 #![tactic(auto)]
 
 ghost use Rattle.std.specs.Prelude.{◌≡◌, [], ◌<◌, ◌≤◌, eqb, length};
+ghost use Rattle.refusal.specs.Numbers.{code};
 ghost use Rattle.fields.specs.Rules.{pick};
 ghost use Rattle.amount.specs.Biased.{biased};
 ghost use Rattle.image.specs.Layout.{image_length, approved_set, with_bit, without_bit};
@@ -11,40 +12,37 @@ ghost use Rattle.outcome.specs.Outcome.{Does, Formed};
 ghost use Rattle.setup.specs.Setup.{zero_token_number, valid_token_number, approve_number, approve_outcome, approve_token, done_before_number, initialize_number, initialize_image, initialize_outcome, initialize};
 
 use amount::Amount;
+use events::Event;
+use image::Flag;
 use outcome::Answer;
+use refusal::Refusal;
 
-fn zero_token_check(t: u8) -> u8
-    ensures { result ≡ zero_token_number t }
+fn zero_token_check(t: u8) -> Result<(), Refusal>
+    ensures { code result ≡ zero_token_number t }
 {
     if t == 0 {
-        return 9;
+        return Err(Refusal::InvalidToken);
     }
-    0
+    Ok(())
 }
 
 // validate_sep41_token: 9, 23.
-fn valid_token_check(img: &[u8], t: u8) -> u8
+fn valid_token_check(img: &[u8], t: u8) -> Result<(), Refusal>
     requires { length img.now ≡ image_length }
-    ensures { result ≡ valid_token_number img.now t }
+    ensures { code result ≡ valid_token_number img.now t }
 {
-    let k = zero_token_check(t);
-    if k != 0 {
-        return k;
-    }
+    zero_token_check(t)?;
     token::presence_check(img, t as usize)
 }
 
 // 1, 3, 22; for a token to be approved 9, 23.
-fn approve_check(img: &[u8], caller: u8, signers: u64, t: u8, on: u8) -> u8
+fn approve_check(img: &[u8], caller: u8, signers: u64, t: u8, on: u8) -> Result<(), Refusal>
     requires { (length img.now ≡ image_length) × (caller < 64) }
-    ensures { result ≡ approve_number img.now caller signers t on }
+    ensures { code result ≡ approve_number img.now caller signers t on }
 {
-    let k = checks::owner_gate(img, caller, signers);
-    if k != 0 {
-        return k;
-    }
+    checks::owner_gate(img, caller, signers)?;
     if on != 1 {
-        return 0;
+        return Ok(());
     }
     valid_token_check(img, t)
 }
@@ -72,13 +70,10 @@ fn approve_token_of(
     requires { Good img.old × (caller < 64) × (t < 64) × (on ≤ 1) × (events.old ≡ event_buffer []) }
     ensures { Does (approve_outcome img.old caller signers t on) result img.new events.new }
 {
-    let k = approve_check(img, caller, signers, t, on);
-    if k != 0 {
-        return outcome::refuse(k);
-    }
+    approve_check(img, caller, signers, t, on)?;
     let set = approved_set(img, t, on);
     fields::put64(img, 72, set);
-    outcome::announce(events, events::token_approval_changed(t, on == 1))
+    Ok(outcome::announce(events, Event::TokenApprovalChanged { token: t, approved: on == 1 }))
 }
 
 pub fn approve_token(img: &mut [u8], rec: &[u8], events: &mut [u8]) -> Answer
@@ -91,33 +86,24 @@ pub fn approve_token(img: &mut [u8], rec: &[u8], events: &mut [u8]) -> Answer
     approve_token_of(img, events, caller, signers, t, record::flag(rec))
 }
 
-fn done_before_check(img: &[u8]) -> u8
+fn done_before_check(img: &[u8]) -> Result<(), Refusal>
     requires { length img.now ≡ image_length }
-    ensures { result ≡ done_before_number img.now }
+    ensures { code result ≡ done_before_number img.now }
 {
-    if checks::flag_of(img, 0) == 1 {
-        return 2;
+    if checks::has_flag(img, Flag::Initialised) {
+        return Err(Refusal::AlreadyInitialized);
     }
-    0
+    Ok(())
 }
 
 // 22; 4; 9, 23; 2.
-fn initialize_check(img: &[u8], caller: u8, signers: u64, t: u8, n: Amount) -> u8
+fn initialize_check(img: &[u8], caller: u8, signers: u64, t: u8, n: Amount) -> Result<(), Refusal>
     requires { (length img.now ≡ image_length) × (caller < 64) }
-    ensures { result ≡ initialize_number img.now caller signers t (biased n) }
+    ensures { code result ≡ initialize_number img.now caller signers t (biased n) }
 {
-    let k1 = checks::signed_check(signers, caller);
-    if k1 != 0 {
-        return k1;
-    }
-    let k2 = checks::amount_check(n);
-    if k2 != 0 {
-        return k2;
-    }
-    let k3 = valid_token_check(img, t);
-    if k3 != 0 {
-        return k3;
-    }
+    checks::signed_check(signers, caller)?;
+    checks::amount_check(n)?;
+    valid_token_check(img, t)?;
     done_before_check(img)
 }
 
@@ -126,7 +112,7 @@ fn initialize_image(img: &mut [u8], caller: u8, t: u8, n: Amount)
     ensures { img.new ≡ initialize_image img.old caller t (biased n) }
 {
     let approved = storage::with_bit(fields::get64(img, 72), t as u64);
-    storage::set_flag(img, 0);
+    storage::set_flag(img, Flag::Initialised);
     fields::put8(img, 2, caller);
     fields::put8(img, 3, t);
     amount::write_amount(img, 8, n);
@@ -145,12 +131,9 @@ fn initialize_of(
     requires { Good img.old × (caller < 64) × (t < 64) × (events.old ≡ event_buffer []) }
     ensures { Does (initialize_outcome img.old caller signers t (biased n)) result img.new events.new }
 {
-    let k = initialize_check(img, caller, signers, t, n);
-    if k != 0 {
-        return outcome::refuse(k);
-    }
+    initialize_check(img, caller, signers, t, n)?;
     initialize_image(img, caller, t, n);
-    outcome::announce(events, events::initialized(caller, t, n))
+    Ok(outcome::announce(events, Event::Initialized { owner: caller, token: t, max_limit: n }))
 }
 
 pub fn initialize(img: &mut [u8], rec: &[u8], events: &mut [u8]) -> Answer

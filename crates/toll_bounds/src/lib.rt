@@ -2,6 +2,7 @@
 #![tactic(auto)]
 
 ghost use Rattle.std.specs.Prelude.{◌≡◌, ◌+◌, ◌*◌, ◌<◌, ◌≤◌, length};
+ghost use Rattle.refusal.specs.Numbers.{code};
 ghost use Rattle.amount.specs.Biased.{bias, biased, amount_at};
 ghost use Rattle.image.specs.Layout.{image_length};
 ghost use Rattle.token.specs.Token.{arrives};
@@ -10,66 +11,61 @@ ghost use Rattle.toll_bounds.specs.Parts.{TallyIs, HoldingsAre};
 ghost use Rattle.toll_bounds.specs.Theorems.{TollBounds};
 
 use amount::Amount;
+use refusal::Refusal;
 
 // 46: the list's length.
-fn list_check(bytes: usize) -> u8
-    ensures { result ≡ list_number bytes }
+fn list_check(bytes: usize) -> Result<(), Refusal>
+    ensures { code result ≡ list_number bytes }
 {
     if bytes % 16 != 0 {
-        return 46;
+        return Err(Refusal::InvalidTollBounds);
     }
     if bytes / 16 > 16 {
-        return 46;
+        return Err(Refusal::InvalidTollBounds);
     }
-    0
+    Ok(())
 }
 
 // 46: the tolls.
-fn tolls_check(least: Amount, greatest: Amount) -> u8
-    ensures { result ≡ tolls_number (biased least) (biased greatest) }
+fn tolls_check(least: Amount, greatest: Amount) -> Result<(), Refusal>
+    ensures { code result ≡ tolls_number (biased least) (biased greatest) }
 {
-    if amount::less(least, amount::zero()) {
-        return 46;
+    if least.is_negative() {
+        return Err(Refusal::InvalidTollBounds);
     }
-    if amount::less(greatest, amount::zero()) {
-        return 46;
+    if greatest.is_negative() {
+        return Err(Refusal::InvalidTollBounds);
     }
-    if amount::less(greatest, least) {
-        return 46;
+    if greatest < least {
+        return Err(Refusal::InvalidTollBounds);
     }
-    0
+    Ok(())
 }
 
 // 46: the token.
-fn token_check(img: &[u8], t: u8) -> u8
+fn token_check(img: &[u8], t: u8) -> Result<(), Refusal>
     requires { length img.now ≡ image_length }
-    ensures { result ≡ token_number img.now t }
+    ensures { code result ≡ token_number img.now t }
 {
     if t > 63 {
-        return 46;
+        return Err(Refusal::InvalidTollBounds);
     }
     if t < 48 {
-        return 46;
+        return Err(Refusal::InvalidTollBounds);
     }
     if fields::get64(img, 3680 + 24 * ((t - 48) as usize)) != 1 {
-        return 46;
+        return Err(Refusal::InvalidTollBounds);
     }
-    0
+    Ok(())
 }
 
 // 46.
-fn request_check(img: &[u8], t: u8, bytes: usize, least: Amount, greatest: Amount) -> u8
+fn request_check(img: &[u8], t: u8, bytes: usize, least: Amount, greatest: Amount) -> Result<(), Refusal>
     requires { length img.now ≡ image_length }
-    ensures { result ≡ request_number img.now t bytes (biased least) (biased greatest) }
+    ensures { code result ≡ request_number img.now t bytes (biased least) (biased greatest) }
 {
-    let k1 = list_check(bytes);
-    if k1 != 0 {
-        return k1;
-    }
-    let k2 = tolls_check(least, greatest);
-    if k2 != 0 {
-        return k2;
-    }
+    list_check(bytes)?;
+    tolls_check(least, greatest)?;
     token_check(img, t)
 }
 
@@ -81,18 +77,16 @@ fn amount_in(amounts: &[u8], i: usize) -> Amount
 }
 
 // 4.
-fn amounts_check(amounts: &[u8], count: usize) -> u8
+fn amounts_check(amounts: &[u8], count: usize) -> Result<(), Refusal>
     requires { (16 * count ≤ length amounts.now) × (count ≤ 16) }
-    ensures { result ≡ amounts_number amounts.now count }
+    ensures { code result ≡ amounts_number amounts.now count }
 {
-    let mut i: usize = 0;
-    while i < count {
-        if amount::below(amount::zero(), amount_in(amounts, i)) == 0 {
-            return 4;
+    for i in 0..count {
+        if !amount_in(amounts, i).is_positive() {
+            return Err(Refusal::InvalidAmount);
         }
-        i += 1;
     }
-    0
+    Ok(())
 }
 
 // What arrives of an amount of the list.
@@ -103,78 +97,61 @@ fn arrival(toll: Amount, amounts: &[u8], i: usize) -> Amount
     token::arrives(toll, amount_in(amounts, i))
 }
 
-// 7, or 0 and the holding at a toll.
-#[derive(Clone, Copy)]
-struct Tally {
-    number: u8,
-    sum: Amount,
-}
-
-fn holding_after(toll: Amount, held: Amount, amounts: &[u8], count: usize) -> Tally
+// 7, or the holding at a toll.
+fn holding_after(
+    toll: Amount,
+    held: Amount,
+    amounts: &[u8],
+    count: usize,
+) -> Result<Amount, Refusal>
     requires { (bias ≤ biased toll) × (16 * count ≤ length amounts.now) × (count ≤ 16) }
     ensures { TallyIs (biased toll) (biased held) (amount_in amounts.now) count result }
 {
     let mut sum = held;
-    let mut i: usize = 0;
-    while i < count {
-        let n = arrival(toll, amounts, i);
-        if amount::passes(sum, n) != 0 {
-            return Tally { number: 7, sum };
-        }
-        sum = amount::plus(sum, n);
-        i += 1;
+    for i in 0..count {
+        sum = sum
+            .checked_add(arrival(toll, amounts, i))
+            .ok_or(Refusal::ArithmeticOverflow)?;
     }
-    Tally { number: 0, sum }
+    Ok(sum)
 }
 
-// The answer before it is written out.
+// The least and the greatest holding.
 #[derive(Clone, Copy)]
 struct Holdings {
-    number: u8,
     least: Amount,
     greatest: Amount,
 }
 
-fn refusal(number: u8) -> Holdings
-    ensures { HoldingsAre (refused number) result }
-{
-    Holdings {
-        number,
-        least: amount::zero(),
-        greatest: amount::zero(),
-    }
-}
+// What is written where the answer is a refusal.
+const NO_HOLDINGS: Holdings = Holdings {
+    least: Amount::ZERO,
+    greatest: Amount::ZERO,
+};
 
 // 30, 46, 4, 7.
-fn bounds_of(image: &[u8], token: u8, amounts: &[u8], least: Amount, greatest: Amount) -> Holdings
+fn bounds_of(
+    image: &[u8],
+    token: u8,
+    amounts: &[u8],
+    least: Amount,
+    greatest: Amount,
+) -> Result<Holdings, Refusal>
     ensures { HoldingsAre (toll_bounds image.now token amounts.now (biased least) (biased greatest)) result }
 {
     if !image::good_image(image) {
-        return refusal(30);
+        return Err(Refusal::InvalidImage);
     }
-    let k1 = request_check(image, token, amounts.len(), least, greatest);
-    if k1 != 0 {
-        return refusal(k1);
-    }
+    request_check(image, token, amounts.len(), least, greatest)?;
     let count = amounts.len() / 16;
-    let k2 = amounts_check(amounts, count);
-    if k2 != 0 {
-        return refusal(k2);
-    }
+    amounts_check(amounts, count)?;
     let held = token::balance(image, token as usize, 1);
-    let high = holding_after(least, held, amounts, count);
-    let k3 = high.number;
-    if k3 != 0 {
-        return refusal(k3);
-    }
-    let low = holding_after(greatest, held, amounts, count);
-    let least_holding = low.sum;
-    let greatest_holding = high.sum;
-    Holdings {
-        number: 0,
+    let greatest_holding = holding_after(least, held, amounts, count)?;
+    let least_holding = holding_after(greatest, held, amounts, count)?;
+    Ok(Holdings {
         least: least_holding,
         greatest: greatest_holding,
-    }
+    })
 }
 
 // Both holdings are written for every answer.
@@ -191,10 +168,13 @@ pub fn toll_bounds(
 {
     let least = amount::read_amount(least_toll, 0);
     let greatest = amount::read_amount(greatest_toll, 0);
-    let b = bounds_of(image, token, amounts, least, greatest);
-    amount::write_amount(least_holding, 0, b.least);
-    amount::write_amount(greatest_holding, 0, b.greatest);
-    b.number as u32
+    let (number, holdings) = match bounds_of(image, token, amounts, least, greatest) {
+        Ok(holdings) => (0, holdings),
+        Err(refusal) => (u8::from(refusal), NO_HOLDINGS),
+    };
+    amount::write_amount(least_holding, 0, holdings.least);
+    amount::write_amount(greatest_holding, 0, holdings.greatest);
+    u32::from(number)
 }
 
 // What holds of toll bounds, over the definition that the contract above cites.

@@ -2,6 +2,7 @@
 #![tactic(auto)]
 
 ghost use Rattle.std.specs.Prelude.{◌≡◌, ◌+◌, ◌<◌, length};
+ghost use Rattle.refusal.specs.Numbers.{code};
 ghost use Rattle.amount.specs.Biased.{bias, biased};
 ghost use Rattle.image.specs.Layout.{image_length, initialised};
 ghost use Rattle.storage.specs.Facts.{Good};
@@ -9,49 +10,42 @@ ghost use Rattle.outcome.specs.Outcome.{Views, Formed};
 ghost use Rattle.views.specs.Views.{balance, withdraw_cap_number, effective_number, effective_value, effective_outcome, effective_withdraw_limit, account_balance, get_token_account_balance, is_token_approved, compliant_outcome, is_token_compliant};
 
 use amount::Amount;
-use outcome::Answer;
+use image::Flag;
+use outcome::{Answer, Done};
+use refusal::Refusal;
 
 pub fn balance(img: &[u8], rec: &[u8]) -> Answer
     requires { Good img.now × Formed 24 rec.now }
     ensures { Views (balance img.now rec.now) result }
 {
-    let k = checks::initialised_check(img);
-    if k != 0 {
-        return outcome::refuse(k);
-    }
-    outcome::viewed(token::vault_balance(img))
+    checks::initialised_check(img)?;
+    Ok(Done::viewed(token::vault_balance(img)))
 }
 
 // 3, 6.
-fn withdraw_cap_check(img: &[u8], caller: u8) -> u8
+fn withdraw_cap_check(img: &[u8], caller: u8) -> Result<(), Refusal>
     requires { length img.now ≡ image_length }
-    ensures { result ≡ withdraw_cap_number img.now caller }
+    ensures { code result ≡ withdraw_cap_number img.now caller }
 {
     if fields::get8(img, 2) == caller {
-        return 0;
+        return Ok(());
     }
-    if checks::is_insider(img, caller) != 1 {
-        return 3;
+    if !checks::is_insider(img, caller) {
+        return Err(Refusal::NotAuthorized);
     }
-    if checks::flag_of(img, 3) != 1 {
-        return 6;
+    if !checks::has_flag(img, Flag::OperatorLimit) {
+        return Err(Refusal::LimitExceeded);
     }
-    0
+    Ok(())
 }
 
 // 8; 1; 3, 6.
-fn effective_check(img: &[u8], caller: u8) -> u8
+fn effective_check(img: &[u8], caller: u8) -> Result<(), Refusal>
     requires { length img.now ≡ image_length }
-    ensures { result ≡ effective_number img.now caller }
+    ensures { code result ≡ effective_number img.now caller }
 {
-    let k1 = checks::paused_check(img);
-    if k1 != 0 {
-        return k1;
-    }
-    let k2 = checks::initialised_check(img);
-    if k2 != 0 {
-        return k2;
-    }
+    checks::paused_check(img)?;
+    checks::initialised_check(img)?;
     withdraw_cap_check(img, caller)
 }
 
@@ -64,7 +58,7 @@ fn effective_value(img: &[u8], caller: u8) -> Amount
         return held;
     }
     let limit = amount::read_amount(img, 24);
-    if amount::below(limit, held) != 0 {
+    if limit < held {
         return limit;
     }
     held
@@ -74,11 +68,8 @@ fn effective_withdraw_limit_of(img: &[u8], caller: u8) -> Answer
     requires { Good img.now }
     ensures { Views (effective_outcome img.now caller) result }
 {
-    let k = effective_check(img, caller);
-    if k != 0 {
-        return outcome::refuse(k);
-    }
-    outcome::viewed(effective_value(img, caller))
+    effective_check(img, caller)?;
+    Ok(Done::viewed(effective_value(img, caller)))
 }
 
 pub fn effective_withdraw_limit(img: &[u8], rec: &[u8]) -> Answer
@@ -93,7 +84,7 @@ fn account_balance(img: &[u8], t: u8, account: u8) -> Amount
     ensures { biased result ≡ bias + account_balance img.now t account }
 {
     if t < 48 {
-        return amount::zero();
+        return Amount::ZERO;
     }
     storage::get_token_account_balance(img, t as usize, account as usize)
 }
@@ -104,7 +95,7 @@ pub fn get_token_account_balance(img: &[u8], rec: &[u8]) -> Answer
 {
     let t = record::token(rec);
     let account = record::caller(rec);
-    outcome::viewed(account_balance(img, t, account))
+    Ok(Done::viewed(account_balance(img, t, account)))
 }
 
 pub fn is_token_approved(img: &[u8], rec: &[u8]) -> Answer
@@ -112,7 +103,7 @@ pub fn is_token_approved(img: &[u8], rec: &[u8]) -> Answer
     ensures { Views (is_token_approved img.now rec.now) result }
 {
     let t = record::token(rec);
-    outcome::viewed(amount::from_u64(checks::has(fields::get64(img, 72), t as u64)))
+    Ok(Done::viewed(Amount::from(u64::from(checks::contains(fields::get64(img, 72), t)))))
 }
 
 fn is_token_compliant_of(img: &[u8], t: u8) -> Answer
@@ -120,13 +111,10 @@ fn is_token_compliant_of(img: &[u8], t: u8) -> Answer
     ensures { Views (compliant_outcome img.now t) result }
 {
     if t == 0 {
-        return outcome::viewed(amount::zero());
+        return Ok(Done::viewed(Amount::ZERO));
     }
-    let k = token::presence_check(img, t as usize);
-    if k != 0 {
-        return outcome::refuse(k);
-    }
-    outcome::viewed(amount::from_u64(1))
+    token::presence_check(img, t as usize)?;
+    Ok(Done::viewed(Amount::from(1)))
 }
 
 pub fn is_token_compliant(img: &[u8], rec: &[u8]) -> Answer

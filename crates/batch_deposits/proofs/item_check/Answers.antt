@@ -4,10 +4,10 @@ use Rattle.fields.specs.Rules.{link_at_lem, ends_at}
 use native.Mathlib.Omega.{arith}
 use Rattle.batch_deposits.proofs.item_check.Goals as goal
 
-pub returns-then-k-ne0 : goal.returns-then-k-ne0
+pub returns-in_err-deposit_amount_check : goal.returns-in_err-deposit_amount_check
 unfolding item_number
-returns-then-k-ne0 c = let e = rw c.item_amount.ensures at c.deposit_amount_check-k.ensures in link_at_lem _ 0 _ (omega arith) e
+returns-in_err-deposit_amount_check c = let e = rw c.item_amount.ensures at c.in_err-deposit_amount_check.ensures in link_at_lem _ 0 _ (omega arith) e
 
 pub returns : goal.returns
 unfolding item_number
-returns c = let e = rw c.item_amount.ensures at c.deposit_amount_check-k.ensures in ends_at _ 1 _ (omega arith) (rw c.item_address.ensures at c.signed_check.ensures)
+returns c = let e = rw c.item_amount.ensures at c.in_ok-deposit_amount_check.ensures in ends_at _ 1 _ (omega arith) (rw c.item_address.ensures at c.signed_check.ensures)

@@ -4,10 +4,10 @@ use Rattle.fields.specs.Rules.{link_at_lem, ends_at}
 use native.Mathlib.Omega.{arith}
 use Rattle.deposits.proofs.credited_check.Goals as goal
 
-pub returns-then-k-ne0 : goal.returns-then-k-ne0
+pub returns-in_err-expected_check : goal.returns-in_err-expected_check
 unfolding credited_number
-returns-then-k-ne0 c = let e = rw c.balance.ensures at c.expected_check-k.ensures in link_at_lem _ 0 _ (omega arith) e
+returns-in_err-expected_check c = let e = rw c.balance.ensures at c.in_err-expected_check.ensures in link_at_lem _ 0 _ (omega arith) e
 
 pub returns : goal.returns
 unfolding credited_number
-returns c = let e = rw c.balance.ensures at c.expected_check-k.ensures in ends_at _ 1 _ (omega arith) (rw c.get_token_account_balance-credit.ensures at c.overflow_check.ensures)
+returns c = let e = rw c.balance.ensures at c.in_ok-expected_check.ensures in ends_at _ 1 _ (omega arith) (rw c.get_token_account_balance-credit.ensures at c.overflow_check.ensures)

@@ -1,4 +1,6 @@
 -- `deposits::deposit_checks` meets its contract.
+use Rattle.refusal.specs.Laws.{passed_on}
+use mathlib.Core.Path.{refl}
 use Rattle.deposits.specs.Deposit.{deposit_checks}
 use Rattle.checks.specs.Passed.{shared_free, deposit_amount_free}
 use Rattle.storage.specs.Writes.{default_range}
@@ -7,20 +9,20 @@ use native.Mathlib.Omega.{arith}
 use borrow.Author.Rules.{rules}
 use Rattle.deposits.proofs.deposit_checks.Goals as goal
 
-pub returns-then-k1-ne0 : goal.returns-then-k1-ne0
+pub returns-in_err-paused_check : goal.returns-in_err-paused_check
 unfolding deposit_checks
-returns-then-k1-ne0 c = link_at_lem _ 0 _ (omega arith) c.paused_check-k1.ensures
+returns-in_err-paused_check c = passed_on _ 0 _ _ tt c.from_residual.ensures c.in_err-paused_check.ensures
 
-pub returns-then-k2-ne0 : goal.returns-then-k2-ne0
+pub returns-in_err-shared_gate : goal.returns-in_err-shared_gate
 unfolding deposit_checks
-returns-then-k2-ne0 c = link_at_lem _ 1 _ (omega arith) c.shared_gate-k2.ensures
+returns-in_err-shared_gate c = passed_on _ 1 _ _ (omega arith) c.from_residual-in_err-shared_gate.ensures c.in_err-shared_gate.ensures
 
-pub returns-then-k3-ne0 : goal.returns-then-k3-ne0
+pub returns-in_err-deposit_amount_check : goal.returns-in_err-deposit_amount_check
 unfolding deposit_checks
-returns-then-k3-ne0 c = link_at_lem _ 2 _ (omega arith) c.deposit_amount_check-k3.ensures
+returns-in_err-deposit_amount_check c = passed_on _ 2 _ _ (omega arith) c.from_residual-in_err-deposit_amount_check.ensures c.in_err-deposit_amount_check.ensures
 
 pub funding_check-requires : goal.funding_check-requires
-funding_check-requires c = let (low, high) = default_range c.args.img.now c.requires.0 (shared_free _ _ _ c.shared_gate-k2.ensures c.if-k2-ne0.false) in let above = deposit_amount_free _ c.deposit_amount_check-k3.ensures c.if-k3-ne0.false in (search rules, omega arith, omega arith, omega arith)
+funding_check-requires c = let (low, high) = default_range c.args.img.now c.requires.0 (shared_free _ _ _ c.in_ok-shared_gate.ensures refl) in let above = deposit_amount_free _ c.in_ok-deposit_amount_check.ensures refl in (search rules, omega arith, omega arith, omega arith)
 
 pub returns : goal.returns
 unfolding deposit_checks

@@ -1,4 +1,6 @@
 -- `deposits::deposit_with_failure_report_of` meets its contract.
+use Rattle.refusal.specs.Laws.{some_number}
+use mathlib.Core.Path.{refl}
 use Rattle.deposits.proofs.Whole.{report_refused, report_passed}
 use Rattle.deposits.proofs.Laws.{checks_passed}
 use Rattle.amount.specs.Biased.{biased}
@@ -6,11 +8,11 @@ use native.Mathlib.Omega.{arith}
 use borrow.Author.Rules.{rules}
 use Rattle.deposits.proofs.deposit_with_failure_report_of.Goals as goal
 
-pub returns-then-k-ne0 : goal.returns-then-k-ne0
-returns-then-k-ne0 c = let x = c.args in report_refused x.img.now x.caller x.signers x.sequence (biased x.n) c.deposit_checks-k.ensures c.refuse.ensures c.if-k-ne0.true
+pub returns-in_err-deposit_checks : goal.returns-in_err-deposit_checks
+returns-in_err-deposit_checks c = let x = c.args in report_refused x.img.now x.caller x.signers x.sequence (biased x.n) c.in_err-deposit_checks.ensures c.refuse.ensures (some_number _)
 
 pub report-requires : goal.report-requires
-report-requires c = let f = checks_passed c.args.img.now _ _ _ _ (biased c.args.n) c.requires.0 c.get8.ensures c.deposit_checks-k.ensures c.if-k-ne0.false in (c.requires.0, f.low, f.high, search rules, omega arith, f.sum, c.requires.2)
+report-requires c = let f = checks_passed c.args.img.now _ _ _ _ (biased c.args.n) c.requires.0 c.get8.ensures c.in_ok-deposit_checks.ensures refl in (c.requires.0, f.low, f.high, search rules, omega arith, f.sum, c.requires.2)
 
 pub returns : goal.returns
-returns c = let x = c.args in report_passed x.img.now x.caller x.signers x.sequence (biased x.n) c.deposit_checks-k.ensures _ c.get8.ensures c.if-k-ne0.false c.report.ensures
+returns c = let x = c.args in report_passed x.img.now x.caller x.signers x.sequence (biased x.n) c.in_ok-deposit_checks.ensures _ c.get8.ensures refl c.report.ensures

@@ -1,17 +1,18 @@
 -- `deposits::funding_check` meets its contract.
+use Rattle.refusal.specs.Laws.{passed_on}
 use Rattle.deposits.specs.Deposit.{funding_number}
 use Rattle.fields.specs.Rules.{link_at_lem, ends_at}
 use native.Mathlib.Omega.{arith}
 use Rattle.deposits.proofs.funding_check.Goals as goal
 
-pub returns-then-k1-ne0 : goal.returns-then-k1-ne0
+pub returns-in_err-approved_check : goal.returns-in_err-approved_check
 unfolding funding_number
-returns-then-k1-ne0 c = link_at_lem _ 0 _ (omega arith) c.approved_check-k1.ensures
+returns-in_err-approved_check c = passed_on _ 0 _ _ tt c.from_residual.ensures c.in_err-approved_check.ensures
 
-pub returns-then-k2-ne0 : goal.returns-then-k2-ne0
+pub returns-in_err-limit_check : goal.returns-in_err-limit_check
 unfolding funding_number
-returns-then-k2-ne0 c = let e = rw (c.balance-held.ensures, c.read_amount.ensures) at c.limit_check-k2.ensures in link_at_lem _ 1 _ (omega arith) e
+returns-in_err-limit_check c = let e = rw (c.balance-held.ensures, c.read_amount.ensures) at c.in_err-limit_check.ensures in link_at_lem _ 1 _ (omega arith) e
 
 pub returns : goal.returns
 unfolding funding_number
-returns c = let e = rw (c.balance-held.ensures, c.read_amount.ensures) at c.limit_check-k2.ensures in ends_at _ 2 _ (omega arith) (rw c.balance-held.ensures at c.check_vault_balance.ensures)
+returns c = let e = rw (c.balance-held.ensures, c.read_amount.ensures) at c.in_ok-limit_check.ensures in ends_at _ 2 _ (omega arith) (rw c.balance-held.ensures at c.check_vault_balance.ensures)

@@ -1,12 +1,13 @@
 -- `deposits::gross_check` meets its contract.
+use Rattle.refusal.specs.Laws.{passed_on}
 use Rattle.deposits.specs.Deposit.{gross_number}
 use Rattle.fields.specs.Rules.{link_at_lem, ends_at}
 use native.Mathlib.Omega.{arith}
 use Rattle.deposits.proofs.gross_check.Goals as goal
 
-pub returns-then-k-ne0 : goal.returns-then-k-ne0
+pub returns-in_err-fee_check : goal.returns-in_err-fee_check
 unfolding gross_number
-returns-then-k-ne0 c = link_at_lem _ 0 _ (omega arith) c.fee_check-k.ensures
+returns-in_err-fee_check c = passed_on _ 0 _ _ tt c.from_residual.ensures c.in_err-fee_check.ensures
 
 pub returns : goal.returns
 unfolding gross_number

@@ -1,4 +1,6 @@
 -- `deposits::token_checks` meets its contract.
+use Rattle.refusal.specs.Laws.{passed_on}
+use mathlib.Core.Path.{refl}
 use Rattle.deposits.specs.TokenDeposit.{token_checks}
 use Rattle.fields.specs.Rules.{link_at_lem, ends_at}
 use Rattle.checks.specs.Passed.{deposit_amount_free}
@@ -6,20 +8,20 @@ use native.Mathlib.Omega.{arith}
 use borrow.Author.Rules.{rules}
 use Rattle.deposits.proofs.token_checks.Goals as goal
 
-pub returns-then-k1-ne0 : goal.returns-then-k1-ne0
+pub returns-in_err-paused_check : goal.returns-in_err-paused_check
 unfolding token_checks
-returns-then-k1-ne0 c = link_at_lem _ 0 _ (omega arith) c.paused_check-k1.ensures
+returns-in_err-paused_check c = passed_on _ 0 _ _ tt c.from_residual.ensures c.in_err-paused_check.ensures
 
-pub returns-then-k2-ne0 : goal.returns-then-k2-ne0
+pub returns-in_err-shared_gate : goal.returns-in_err-shared_gate
 unfolding token_checks
-returns-then-k2-ne0 c = link_at_lem _ 1 _ (omega arith) c.shared_gate-k2.ensures
+returns-in_err-shared_gate c = passed_on _ 1 _ _ (omega arith) c.from_residual-in_err-shared_gate.ensures c.in_err-shared_gate.ensures
 
-pub returns-then-k3-ne0 : goal.returns-then-k3-ne0
+pub returns-in_err-deposit_amount_check : goal.returns-in_err-deposit_amount_check
 unfolding token_checks
-returns-then-k3-ne0 c = link_at_lem _ 2 _ (omega arith) c.deposit_amount_check-k3.ensures
+returns-in_err-deposit_amount_check c = passed_on _ 2 _ _ (omega arith) c.from_residual-in_err-deposit_amount_check.ensures c.in_err-deposit_amount_check.ensures
 
 pub token_funding_check-requires : goal.token_funding_check-requires
-token_funding_check-requires c = let above = deposit_amount_free _ c.deposit_amount_check-k3.ensures c.if-k3-ne0.false in (search rules, search rules, omega arith)
+token_funding_check-requires c = let above = deposit_amount_free _ c.in_ok-deposit_amount_check.ensures refl in (search rules, search rules, omega arith)
 
 pub returns : goal.returns
 unfolding token_checks

@@ -1,4 +1,6 @@
 -- `deposits::token_funding_check` meets its contract.
+use Rattle.refusal.specs.Laws.{passed_on}
+use mathlib.Core.Path.{refl}
 use Rattle.deposits.specs.TokenDeposit.{token_funding_number}
 use Rattle.fields.specs.Rules.{link_at_lem, ends_at}
 use Rattle.token.specs.Laws.{absent_free}
@@ -6,24 +8,24 @@ use native.Mathlib.Omega.{arith}
 use borrow.Author.Rules.{rules}
 use Rattle.deposits.proofs.token_funding_check.Goals as goal
 
-pub returns-then-k1-ne0 : goal.returns-then-k1-ne0
+pub returns-in_err-approved_check : goal.returns-in_err-approved_check
 unfolding token_funding_number
-returns-then-k1-ne0 c = link_at_lem _ 0 _ (omega arith) c.approved_check-k1.ensures
+returns-in_err-approved_check c = passed_on _ 0 _ _ tt c.from_residual.ensures c.in_err-approved_check.ensures
 
-pub returns-then-k2-ne0 : goal.returns-then-k2-ne0
+pub returns-in_err-presence_check : goal.returns-in_err-presence_check
 unfolding token_funding_number
-returns-then-k2-ne0 c = link_at_lem _ 1 _ (omega arith) c.presence_check-k2.ensures
+returns-in_err-presence_check c = passed_on _ 1 _ _ (omega arith) c.from_residual-in_err-presence_check.ensures c.in_err-presence_check.ensures
 
 pub balance-held-requires : goal.balance-held-requires
-balance-held-requires c = let f = absent_free _ _ c.presence_check-k2.ensures c.if-k2-ne0.false in (search rules, omega arith, omega arith, omega arith)
+balance-held-requires c = let f = absent_free _ _ c.in_ok-presence_check.ensures refl in (search rules, omega arith, omega arith, omega arith)
 
-pub check_vault_balance-k3-requires : goal.check_vault_balance-k3-requires
-check_vault_balance-k3-requires c = let f = absent_free _ _ c.presence_check-k2.ensures c.if-k2-ne0.false in (search rules, omega arith, omega arith)
+pub check_vault_balance-requires : goal.check_vault_balance-requires
+check_vault_balance-requires c = let f = absent_free _ _ c.in_ok-presence_check.ensures refl in (search rules, omega arith, omega arith)
 
-pub returns-then-k3-ne0 : goal.returns-then-k3-ne0
+pub returns-in_err-check_vault_balance : goal.returns-in_err-check_vault_balance
 unfolding token_funding_number
-returns-then-k3-ne0 c = let e = rw c.balance-held.ensures at c.check_vault_balance-k3.ensures in link_at_lem _ 2 _ (omega arith) e
+returns-in_err-check_vault_balance c = let e = rw c.balance-held.ensures at c.in_err-check_vault_balance.ensures in link_at_lem _ 2 _ (omega arith) e
 
 pub returns : goal.returns
 unfolding token_funding_number
-returns c = let e = rw c.balance-held.ensures at c.check_vault_balance-k3.ensures in ends_at _ 3 _ (omega arith) (rw c.balance-held.ensures at c.token_cap_check.ensures)
+returns c = let e = rw c.balance-held.ensures at c.in_ok-check_vault_balance.ensures in ends_at _ 3 _ (omega arith) (rw c.balance-held.ensures at c.token_cap_check.ensures)

@@ -1,16 +1,17 @@
 -- `handover::accept_check` meets its contract.
+use Rattle.refusal.specs.Laws.{passed_on}
 use Rattle.handover.specs.Handover.{accept_number}
 use Rattle.fields.specs.Rules.{link_at_lem, ends_at}
 use native.Mathlib.Omega.{arith}
 use Rattle.handover.proofs.accept_check.Goals as goal
 
-pub returns-then-k1-ne0 : goal.returns-then-k1-ne0
+pub returns-in_err-pending_check : goal.returns-in_err-pending_check
 unfolding accept_number
-returns-then-k1-ne0 c = link_at_lem _ 0 _ (omega arith) c.pending_check-k1.ensures
+returns-in_err-pending_check c = passed_on _ 0 _ _ tt c.from_residual.ensures c.in_err-pending_check.ensures
 
-pub returns-then-k2-ne0 : goal.returns-then-k2-ne0
+pub returns-in_err-signed_check : goal.returns-in_err-signed_check
 unfolding accept_number
-returns-then-k2-ne0 c = link_at_lem _ 1 _ (omega arith) c.signed_check-k2.ensures
+returns-in_err-signed_check c = passed_on _ 1 _ _ (omega arith) c.from_residual-in_err-signed_check.ensures c.in_err-signed_check.ensures
 
 pub returns : goal.returns
 unfolding accept_number

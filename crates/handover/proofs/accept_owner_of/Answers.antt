@@ -4,10 +4,10 @@ use Rattle.outcome.specs.Outcome.{refused, announced}
 use mathlib.Core.Path.{sym, ◌∙◌}
 use Rattle.handover.proofs.accept_owner_of.Goals as goal
 
-pub returns-then-k-ne0 : goal.returns-then-k-ne0
+pub returns-in_err-accept_check : goal.returns-in_err-accept_check
 unfolding accept_outcome
-returns-then-k-ne0 c = refused _ c.refuse.ensures c.accept_check-k.ensures c.if-k-ne0.true
+returns-in_err-accept_check c = refused _ c.from_residual.ensures c.in_err-accept_check.ensures
 
 pub returns : goal.returns
 unfolding accept_outcome
-returns c = announced (sym c.accept_check-k.ensures ∙ c.if-k-ne0.false) (rw c.get8-proposer.ensures at c.owner_accepted.ensures) c.announce.ensures (rw (c.put8.ensures, c.clear_pending.ensures))
+returns c = announced (sym c.in_ok-accept_check.ensures) (rw c.get8-proposer.ensures) c.announce.ensures (rw (c.put8.ensures, c.clear_pending.ensures))

@@ -1,16 +1,17 @@
 -- `migration::execute_check` meets its contract.
+use Rattle.refusal.specs.Laws.{passed_on}
 use Rattle.migration.specs.Migration.{execute_checks}
 use Rattle.fields.specs.Rules.{link_at_lem, ends_at}
 use native.Mathlib.Omega.{arith}
 use Rattle.migration.proofs.execute_check.Goals as goal
 
-pub returns-then-k1-ne0 : goal.returns-then-k1-ne0
+pub returns-in_err-owner_gate : goal.returns-in_err-owner_gate
 unfolding execute_checks
-returns-then-k1-ne0 c = link_at_lem _ 0 _ (omega arith) c.owner_gate-k1.ensures
+returns-in_err-owner_gate c = passed_on _ 0 _ _ tt c.from_residual.ensures c.in_err-owner_gate.ensures
 
-pub returns-then-k2-ne0 : goal.returns-then-k2-ne0
+pub returns-in_err-migration_check : goal.returns-in_err-migration_check
 unfolding execute_checks
-returns-then-k2-ne0 c = link_at_lem _ 1 _ (omega arith) c.migration_check-k2.ensures
+returns-in_err-migration_check c = passed_on _ 1 _ _ (omega arith) c.from_residual-in_err-migration_check.ensures c.in_err-migration_check.ensures
 
 pub returns : goal.returns
 unfolding execute_checks

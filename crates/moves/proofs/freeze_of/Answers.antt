@@ -1,4 +1,5 @@
 -- `moves::freeze_of` meets its contract.
+use mathlib.Core.Path.{refl}
 use Rattle.moves.specs.Laws.{freeze_free}
 use Rattle.moves.specs.Outside.{freeze_outcome}
 use Rattle.amount.specs.Biased.{bias}
@@ -8,13 +9,13 @@ use native.Mathlib.Nat.{add-zero}
 use mathlib.Core.Path.{sym, ◌∙◌}
 use Rattle.moves.proofs.freeze_of.Goals as goal
 
-pub returns-then-k-ne0 : goal.returns-then-k-ne0
+pub returns-in_err-freeze_check : goal.returns-in_err-freeze_check
 unfolding freeze_outcome
-returns-then-k-ne0 c = refused _ c.refuse.ensures c.freeze_check-k.ensures c.if-k-ne0.true
+returns-in_err-freeze_check c = refused _ c.from_residual.ensures c.in_err-freeze_check.ensures
 
 pub overflow_sub-i : goal.overflow_sub-i
-overflow_sub-i c = let x = c.args in omega (arith, (freeze_free x.img.now x.t c.freeze_check-k.ensures c.if-k-ne0.false).0)
+overflow_sub-i c = let x = c.args in omega (arith, (freeze_free x.img.now x.t c.in_ok-freeze_check.ensures refl).0)
 
 pub returns : goal.returns
 unfolding freeze_outcome
-returns c = let d = c.done.ensures in accepted (sym c.freeze_check-k.ensures ∙ c.if-k-ne0.false) d.0 (d.1 ∙ sym (add-zero bias)) d.2 (rw c.frozen_kind.ensures at c.put64.ensures) c.requires.1
+returns c = let d = c.done.ensures in accepted (sym c.in_ok-freeze_check.ensures) d.0 (d.1 ∙ sym (add-zero bias)) d.2 (rw c.frozen_kind.ensures at c.put64.ensures) c.requires.1

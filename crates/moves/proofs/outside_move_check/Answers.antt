@@ -1,12 +1,13 @@
 -- `moves::outside_move_check` meets its contract.
+use Rattle.refusal.specs.Laws.{passed_on}
 use Rattle.moves.specs.Outside.{outside_move_checks}
 use Rattle.fields.specs.Rules.{link_at_lem, ends_at}
 use native.Mathlib.Omega.{arith}
 use Rattle.moves.proofs.outside_move_check.Goals as goal
 
-pub returns-then-k-ne0 : goal.returns-then-k-ne0
+pub returns-in_err-sender_check : goal.returns-in_err-sender_check
 unfolding outside_move_checks
-returns-then-k-ne0 c = link_at_lem _ 0 _ (omega arith) c.sender_check-k.ensures
+returns-in_err-sender_check c = passed_on _ 0 _ _ tt c.from_residual.ensures c.in_err-sender_check.ensures
 
 pub returns : goal.returns
 unfolding outside_move_checks

@@ -1,4 +1,6 @@
 -- `payouts::batch_checks` meets its contract.
+use Rattle.refusal.specs.Laws.{passed_on}
+use mathlib.Core.Path.{refl}
 use Rattle.payouts.proofs.Steps.{no_item, some_item}
 use Rattle.payouts.specs.Payouts.{withdraw_checks}
 use Rattle.storage.specs.Writes.{default_range}
@@ -8,13 +10,13 @@ use native.Mathlib.Omega.{arith}
 use borrow.Author.Rules.{rules}
 use Rattle.payouts.proofs.batch_checks.Goals as goal
 
-pub returns-then-k1-ne0 : goal.returns-then-k1-ne0
+pub returns-in_err-paused_check : goal.returns-in_err-paused_check
 unfolding withdraw_checks
-returns-then-k1-ne0 c = link_at_lem _ 0 _ (omega arith) c.paused_check-k1.ensures
+returns-in_err-paused_check c = passed_on _ 0 _ _ tt c.from_residual.ensures c.in_err-paused_check.ensures
 
-pub returns-then-k2-ne0 : goal.returns-then-k2-ne0
+pub returns-in_err-shared_gate : goal.returns-in_err-shared_gate
 unfolding withdraw_checks
-returns-then-k2-ne0 c = link_at_lem _ 1 _ (omega arith) c.shared_gate-k2.ensures
+returns-in_err-shared_gate c = passed_on _ 1 _ _ (omega arith) c.from_residual-in_err-shared_gate.ensures c.in_err-shared_gate.ensures
 
 pub returns-then-count-eq0 : goal.returns-then-count-eq0
 unfolding withdraw_checks
@@ -24,13 +26,13 @@ pub returns-then-k3-ne0 : goal.returns-then-k3-ne0
 unfolding withdraw_checks
 returns-then-k3-ne0 c = let x = c.args in let e = some_item x.count x.rec.now (omega arith) in link_at_lem _ 3 _ (omega arith) c.add_items-tally.ensures.number_value
 
-pub returns-then-k4-ne0 : goal.returns-then-k4-ne0
+pub returns-in_err-cap_check : goal.returns-in_err-cap_check
 unfolding withdraw_checks
-returns-then-k4-ne0 c = let x = c.args in let e = some_item x.count x.rec.now (omega arith) in let p = c.add_items-tally.ensures in let k = rw (p.sum_value c.if-k3-ne0.false) at c.cap_check-k4.ensures in link_at_lem _ 4 _ (omega arith) k
+returns-in_err-cap_check c = let x = c.args in let e = some_item x.count x.rec.now (omega arith) in let p = c.add_items-tally.ensures in let k = rw (p.sum_value c.if-k3-ne0.false) at c.in_err-cap_check.ensures in link_at_lem _ 4 _ (omega arith) k
 
 pub balance-requires : goal.balance-requires
-balance-requires c = let (low, high) = default_range c.args.img.now c.requires.0 (shared_free _ _ _ c.shared_gate-k2.ensures c.if-k2-ne0.false) in (search rules, omega arith, omega arith, omega arith)
+balance-requires c = let (low, high) = default_range c.args.img.now c.requires.0 (shared_free _ _ _ c.in_ok-shared_gate.ensures refl) in (search rules, omega arith, omega arith, omega arith)
 
 pub returns : goal.returns
 unfolding withdraw_checks
-returns c = let x = c.args in let e = some_item x.count x.rec.now (omega arith) in let p = c.add_items-tally.ensures in let s = p.sum_value c.if-k3-ne0.false in let k = rw s at c.cap_check-k4.ensures in ends_at _ 5 _ (omega arith) (rw (c.balance.ensures, c.get8.ensures, s) at c.funds_check.ensures)
+returns c = let x = c.args in let e = some_item x.count x.rec.now (omega arith) in let p = c.add_items-tally.ensures in let s = p.sum_value c.if-k3-ne0.false in let k = rw s at c.in_ok-cap_check.ensures in ends_at _ 5 _ (omega arith) (rw (c.balance.ensures, c.get8.ensures, s) at c.funds_check.ensures)

@@ -1,4 +1,6 @@
 -- `payouts::credit_check` meets its contract.
+use Rattle.std.proofs.Common.{rules}
+use Rattle.amount.specs.Order.{lt_true, lt_false}
 use Rattle.payouts.specs.Token.{credit_number}
 use Rattle.fields.specs.Rules.{stop_at}
 use native.Mathlib.Omega.{arith}
@@ -9,10 +11,10 @@ pub returns-then-get8-caller : goal.returns-then-get8-caller
 unfolding credit_number
 returns-then-get8-caller c = stop_at _ 0 _ (omega arith) refl
 
-pub returns-then-below-ne0 : goal.returns-then-below-ne0
+pub returns-then-lt : goal.returns-then-lt
 unfolding credit_number
-returns-then-below-ne0 c = stop_at _ 1 _ (omega arith) refl
+returns-then-lt c = let h = lt_true c.get_token_account_balance-credit.result c.args.n (search rules) (search rules) c.lt.ensures c.if-lt.true in stop_at _ 1 _ (omega arith) refl
 
 pub returns : goal.returns
 unfolding credit_number
-returns c = stop_at _ 2 _ (omega arith) refl
+returns c = let h = lt_false c.get_token_account_balance-credit.result c.args.n (search rules) (search rules) c.lt.ensures c.if-lt.false in stop_at _ 2 _ (omega arith) refl

@@ -1,4 +1,6 @@
 -- `payouts::withdraw_token_checks` meets its contract.
+use Rattle.refusal.specs.Laws.{passed_on}
+use mathlib.Core.Path.{refl}
 use Rattle.payouts.specs.Token.{withdraw_token_checks}
 use Rattle.token.specs.Laws.{absent_free}
 use Rattle.fields.specs.Rules.{link_at_lem, ends_at}
@@ -6,36 +8,36 @@ use native.Mathlib.Omega.{arith}
 use borrow.Author.Rules.{rules}
 use Rattle.payouts.proofs.withdraw_token_checks.Goals as goal
 
-pub returns-then-k1-ne0 : goal.returns-then-k1-ne0
+pub returns-in_err-paused_check : goal.returns-in_err-paused_check
 unfolding withdraw_token_checks
-returns-then-k1-ne0 c = link_at_lem _ 0 _ (omega arith) c.paused_check-k1.ensures
+returns-in_err-paused_check c = passed_on _ 0 _ _ tt c.from_residual.ensures c.in_err-paused_check.ensures
 
-pub returns-then-k2-ne0 : goal.returns-then-k2-ne0
+pub returns-in_err-shared_gate : goal.returns-in_err-shared_gate
 unfolding withdraw_token_checks
-returns-then-k2-ne0 c = link_at_lem _ 1 _ (omega arith) c.shared_gate-k2.ensures
+returns-in_err-shared_gate c = passed_on _ 1 _ _ (omega arith) c.from_residual-in_err-shared_gate.ensures c.in_err-shared_gate.ensures
 
-pub returns-then-k3-ne0 : goal.returns-then-k3-ne0
+pub returns-in_err-amount_check : goal.returns-in_err-amount_check
 unfolding withdraw_token_checks
-returns-then-k3-ne0 c = link_at_lem _ 2 _ (omega arith) c.amount_check-k3.ensures
+returns-in_err-amount_check c = passed_on _ 2 _ _ (omega arith) c.from_residual-in_err-amount_check.ensures c.in_err-amount_check.ensures
 
-pub returns-then-k4-ne0 : goal.returns-then-k4-ne0
+pub returns-in_err-cap_check : goal.returns-in_err-cap_check
 unfolding withdraw_token_checks
-returns-then-k4-ne0 c = link_at_lem _ 3 _ (omega arith) c.cap_check-k4.ensures
+returns-in_err-cap_check c = passed_on _ 3 _ _ (omega arith) c.from_residual-in_err-cap_check.ensures c.in_err-cap_check.ensures
 
-pub returns-then-k5-ne0 : goal.returns-then-k5-ne0
+pub returns-in_err-presence_check : goal.returns-in_err-presence_check
 unfolding withdraw_token_checks
-returns-then-k5-ne0 c = link_at_lem _ 4 _ (omega arith) c.presence_check-k5.ensures
+returns-in_err-presence_check c = passed_on _ 4 _ _ (omega arith) c.from_residual-in_err-presence_check.ensures c.in_err-presence_check.ensures
 
 pub balance-requires : goal.balance-requires
-balance-requires c = let f = absent_free _ _ c.presence_check-k5.ensures c.if-k5-ne0.false in (search rules, omega arith, omega arith, omega arith)
+balance-requires c = let f = absent_free _ _ c.in_ok-presence_check.ensures refl in (search rules, omega arith, omega arith, omega arith)
 
-pub returns-then-k6-ne0 : goal.returns-then-k6-ne0
+pub returns-in_err-funds_check : goal.returns-in_err-funds_check
 unfolding withdraw_token_checks
-returns-then-k6-ne0 c = let e = rw c.balance.ensures at c.funds_check-k6.ensures in link_at_lem _ 5 _ (omega arith) e
+returns-in_err-funds_check c = let e = rw c.balance.ensures at c.in_err-funds_check.ensures in link_at_lem _ 5 _ (omega arith) e
 
 pub credit_check-requires : goal.credit_check-requires
-credit_check-requires c = let f = absent_free _ _ c.presence_check-k5.ensures c.if-k5-ne0.false in (search rules, omega arith, omega arith, omega arith)
+credit_check-requires c = let f = absent_free _ _ c.in_ok-presence_check.ensures refl in (search rules, omega arith, omega arith, omega arith)
 
 pub returns : goal.returns
 unfolding withdraw_token_checks
-returns c = let e = rw c.balance.ensures at c.funds_check-k6.ensures in ends_at _ 6 _ (omega arith) c.credit_check.ensures
+returns c = let e = rw c.balance.ensures at c.in_ok-funds_check.ensures in ends_at _ 6 _ (omega arith) c.credit_check.ensures

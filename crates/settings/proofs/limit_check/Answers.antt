@@ -1,4 +1,6 @@
 -- `settings::limit_check` meets its contract.
+use Rattle.refusal.specs.Laws.{passed_on}
+use mathlib.Core.Path.{refl}
 use Rattle.checks.specs.Passed.{initialised_free}
 use Rattle.settings.specs.Settings.{limit_set_number}
 use Rattle.fields.specs.Rules.{link_at_lem, ends_at}
@@ -6,28 +8,28 @@ use native.Mathlib.Omega.{arith}
 use borrow.Author.Rules.{rules}
 use Rattle.settings.proofs.limit_check.Goals as goal
 
-pub returns-then-k1-ne0 : goal.returns-then-k1-ne0
+pub returns-in_err-paused_check : goal.returns-in_err-paused_check
 unfolding limit_set_number
-returns-then-k1-ne0 c = link_at_lem _ 0 _ (omega arith) c.paused_check-k1.ensures
+returns-in_err-paused_check c = passed_on _ 0 _ _ tt c.from_residual.ensures c.in_err-paused_check.ensures
 
-pub returns-then-k2-ne0 : goal.returns-then-k2-ne0
+pub returns-in_err-initialised_check : goal.returns-in_err-initialised_check
 unfolding limit_set_number
-returns-then-k2-ne0 c = link_at_lem _ 1 _ (omega arith) c.initialised_check-k2.ensures
+returns-in_err-initialised_check c = passed_on _ 1 _ _ (omega arith) c.from_residual-in_err-initialised_check.ensures c.in_err-initialised_check.ensures
 
-pub returns-then-k3-ne0 : goal.returns-then-k3-ne0
+pub returns-in_err-amount_check : goal.returns-in_err-amount_check
 unfolding limit_set_number
-returns-then-k3-ne0 c = link_at_lem _ 2 _ (omega arith) c.amount_check-k3.ensures
+returns-in_err-amount_check c = passed_on _ 2 _ _ (omega arith) c.from_residual-in_err-amount_check.ensures c.in_err-amount_check.ensures
 
-pub below_holding_check-k4-requires : goal.below_holding_check-k4-requires
-below_holding_check-k4-requires c = (search rules, initialised_free _ c.initialised_check-k2.ensures c.if-k2-ne0.false)
+pub below_holding_check-requires : goal.below_holding_check-requires
+below_holding_check-requires c = (search rules, initialised_free _ c.in_ok-initialised_check.ensures refl)
 
-pub returns-then-k4-ne0 : goal.returns-then-k4-ne0
+pub returns-in_err-below_holding_check : goal.returns-in_err-below_holding_check
 unfolding limit_set_number
-returns-then-k4-ne0 c = link_at_lem _ 3 _ (omega arith) c.below_holding_check-k4.ensures
+returns-in_err-below_holding_check c = passed_on _ 3 _ _ (omega arith) c.from_residual-in_err-below_holding_check.ensures c.in_err-below_holding_check.ensures
 
-pub returns-then-k5-ne0 : goal.returns-then-k5-ne0
+pub returns-in_err-limit_role_check : goal.returns-in_err-limit_role_check
 unfolding limit_set_number
-returns-then-k5-ne0 c = link_at_lem _ 4 _ (omega arith) c.limit_role_check-k5.ensures
+returns-in_err-limit_role_check c = passed_on _ 4 _ _ (omega arith) c.from_residual-in_err-limit_role_check.ensures c.in_err-limit_role_check.ensures
 
 pub returns : goal.returns
 unfolding limit_set_number

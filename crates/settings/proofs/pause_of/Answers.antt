@@ -1,13 +1,14 @@
 -- `settings::pause_of` meets its contract.
+use mathlib.Core.Path.{refl}
 use Rattle.settings.specs.Settings.{pause_outcome}
 use Rattle.outcome.specs.Outcome.{refused, announced}
 use mathlib.Core.Path.{sym, ◌∙◌}
 use Rattle.settings.proofs.pause_of.Goals as goal
 
-pub returns-then-k-ne0 : goal.returns-then-k-ne0
+pub returns-in_err-pause_check : goal.returns-in_err-pause_check
 unfolding pause_outcome
-returns-then-k-ne0 c = refused _ c.refuse.ensures c.pause_check-k.ensures c.if-k-ne0.true
+returns-in_err-pause_check c = refused _ c.from_residual.ensures c.in_err-pause_check.ensures
 
 pub returns : goal.returns
 unfolding pause_outcome
-returns c = announced (sym c.pause_check-k.ensures ∙ c.if-k-ne0.false) c.paused.ensures c.announce.ensures (rw c.set_flag.ensures)
+returns c = announced (sym c.in_ok-pause_check.ensures) refl c.announce.ensures (rw c.set_flag.ensures)

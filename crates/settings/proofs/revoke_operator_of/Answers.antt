@@ -1,13 +1,14 @@
 -- `settings::revoke_operator_of` meets its contract.
+use mathlib.Core.Path.{refl}
 use Rattle.settings.specs.Settings.{operator_revoked_outcome}
 use Rattle.outcome.specs.Outcome.{refused, announced}
 use mathlib.Core.Path.{sym, ◌∙◌}
 use Rattle.settings.proofs.revoke_operator_of.Goals as goal
 
-pub returns-then-k-ne0 : goal.returns-then-k-ne0
+pub returns-in_err-owner_gate : goal.returns-in_err-owner_gate
 unfolding operator_revoked_outcome
-returns-then-k-ne0 c = refused _ c.refuse.ensures c.owner_gate-k.ensures c.if-k-ne0.true
+returns-in_err-owner_gate c = refused _ c.from_residual.ensures c.in_err-owner_gate.ensures
 
 pub returns : goal.returns
 unfolding operator_revoked_outcome
-returns c = announced (sym c.owner_gate-k.ensures ∙ c.if-k-ne0.false) c.operator_revoked.ensures c.announce.ensures (rw (c.put8.ensures, c.clear_flag.ensures))
+returns c = announced (sym c.in_ok-owner_gate.ensures) refl c.announce.ensures (rw (c.put8.ensures, c.clear_flag.ensures))

@@ -6,10 +6,10 @@ use native.Mathlib.Nat.{add-zero}
 use mathlib.Core.Path.{sym, ◌∙◌}
 use Rattle.settings.proofs.set_token_max_limit_of.Goals as goal
 
-pub returns-then-k-ne0 : goal.returns-then-k-ne0
+pub returns-in_err-token_max_limit_check : goal.returns-in_err-token_max_limit_check
 unfolding token_max_limit_outcome
-returns-then-k-ne0 c = refused _ c.refuse.ensures c.token_max_limit_check-k.ensures c.if-k-ne0.true
+returns-in_err-token_max_limit_check c = refused _ c.from_residual.ensures c.in_err-token_max_limit_check.ensures
 
 pub returns : goal.returns
 unfolding token_max_limit_outcome
-returns c = let d = c.done.ensures in accepted (sym c.token_max_limit_check-k.ensures ∙ c.if-k-ne0.false) d.0 (d.1 ∙ sym (add-zero bias)) d.2 c.set_token_max_limit.ensures c.requires.3
+returns c = let d = c.new.ensures in accepted (sym c.in_ok-token_max_limit_check.ensures) (d.0 ∙ sym (add-zero bias)) d.1 c.set_token_max_limit.ensures c.requires.3

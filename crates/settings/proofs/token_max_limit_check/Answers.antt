@@ -1,16 +1,17 @@
 -- `settings::token_max_limit_check` meets its contract.
+use Rattle.refusal.specs.Laws.{passed_on}
 use Rattle.settings.specs.Settings.{token_max_limit_number}
 use Rattle.fields.specs.Rules.{link_at_lem, ends_at}
 use native.Mathlib.Omega.{arith}
 use Rattle.settings.proofs.token_max_limit_check.Goals as goal
 
-pub returns-then-k1-ne0 : goal.returns-then-k1-ne0
+pub returns-in_err-paused_check : goal.returns-in_err-paused_check
 unfolding token_max_limit_number
-returns-then-k1-ne0 c = link_at_lem _ 0 _ (omega arith) c.paused_check-k1.ensures
+returns-in_err-paused_check c = passed_on _ 0 _ _ tt c.from_residual.ensures c.in_err-paused_check.ensures
 
-pub returns-then-k2-ne0 : goal.returns-then-k2-ne0
+pub returns-in_err-shared_gate : goal.returns-in_err-shared_gate
 unfolding token_max_limit_number
-returns-then-k2-ne0 c = link_at_lem _ 1 _ (omega arith) c.shared_gate-k2.ensures
+returns-in_err-shared_gate c = passed_on _ 1 _ _ (omega arith) c.from_residual-in_err-shared_gate.ensures c.in_err-shared_gate.ensures
 
 pub returns : goal.returns
 unfolding token_max_limit_number

@@ -1,13 +1,14 @@
 -- `settings::unpause_of` meets its contract.
+use mathlib.Core.Path.{refl}
 use Rattle.settings.specs.Settings.{unpause_outcome}
 use Rattle.outcome.specs.Outcome.{refused, announced}
 use mathlib.Core.Path.{sym, ◌∙◌}
 use Rattle.settings.proofs.unpause_of.Goals as goal
 
-pub returns-then-k-ne0 : goal.returns-then-k-ne0
+pub returns-in_err-unpause_check : goal.returns-in_err-unpause_check
 unfolding unpause_outcome
-returns-then-k-ne0 c = refused _ c.refuse.ensures c.unpause_check-k.ensures c.if-k-ne0.true
+returns-in_err-unpause_check c = refused _ c.from_residual.ensures c.in_err-unpause_check.ensures
 
 pub returns : goal.returns
 unfolding unpause_outcome
-returns c = announced (sym c.unpause_check-k.ensures ∙ c.if-k-ne0.false) c.unpaused.ensures c.announce.ensures (rw c.clear_flag.ensures)
+returns c = announced (sym c.in_ok-unpause_check.ensures) refl c.announce.ensures (rw c.clear_flag.ensures)

@@ -1,4 +1,5 @@
 -- `setup::approve_check` meets its contract.
+use Rattle.refusal.specs.Laws.{passed_on}
 use Rattle.setup.specs.Setup.{approve_number}
 use Rattle.fields.specs.Rules.{link_at_lem, ends_at}
 use borrow.Author.Tests.{eq-eqb, ne_eqb}
@@ -6,13 +7,13 @@ use native.Mathlib.Omega.{arith}
 use mathlib.Core.Path.{refl, sym, ◌∙◌}
 use Rattle.setup.proofs.approve_check.Goals as goal
 
-pub returns-then-k-ne0 : goal.returns-then-k-ne0
+pub returns-in_err-owner_gate : goal.returns-in_err-owner_gate
 unfolding approve_number
-returns-then-k-ne0 c = link_at_lem _ 0 _ (omega arith) c.owner_gate-k.ensures
+returns-in_err-owner_gate c = passed_on _ 0 _ _ tt c.from_residual.ensures c.in_err-owner_gate.ensures
 
 pub returns-then-on-ne1 : goal.returns-then-on-ne1
 unfolding approve_number
-returns-then-on-ne1 c = rw (ne_eqb c.args.on 1 c.if-on-ne1.true) (link_at_lem _ 2 0 (sym c.owner_gate-k.ensures ∙ c.if-k-ne0.false, (refl, tt)) refl)
+returns-then-on-ne1 c = rw (ne_eqb c.args.on 1 c.if-on-ne1.true) (link_at_lem _ 2 0 (sym c.in_ok-owner_gate.ensures, (refl, tt)) refl)
 
 pub returns : goal.returns
 unfolding approve_number

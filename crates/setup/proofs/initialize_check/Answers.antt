@@ -1,20 +1,21 @@
 -- `setup::initialize_check` meets its contract.
+use Rattle.refusal.specs.Laws.{passed_on}
 use Rattle.setup.specs.Setup.{initialize_number}
 use Rattle.fields.specs.Rules.{link_at_lem, ends_at}
 use native.Mathlib.Omega.{arith}
 use Rattle.setup.proofs.initialize_check.Goals as goal
 
-pub returns-then-k1-ne0 : goal.returns-then-k1-ne0
+pub returns-in_err-signed_check : goal.returns-in_err-signed_check
 unfolding initialize_number
-returns-then-k1-ne0 c = link_at_lem _ 0 _ (omega arith) c.signed_check-k1.ensures
+returns-in_err-signed_check c = passed_on _ 0 _ _ tt c.from_residual.ensures c.in_err-signed_check.ensures
 
-pub returns-then-k2-ne0 : goal.returns-then-k2-ne0
+pub returns-in_err-amount_check : goal.returns-in_err-amount_check
 unfolding initialize_number
-returns-then-k2-ne0 c = link_at_lem _ 1 _ (omega arith) c.amount_check-k2.ensures
+returns-in_err-amount_check c = passed_on _ 1 _ _ (omega arith) c.from_residual-in_err-amount_check.ensures c.in_err-amount_check.ensures
 
-pub returns-then-k3-ne0 : goal.returns-then-k3-ne0
+pub returns-in_err-valid_token_check : goal.returns-in_err-valid_token_check
 unfolding initialize_number
-returns-then-k3-ne0 c = link_at_lem _ 2 _ (omega arith) c.valid_token_check-k3.ensures
+returns-in_err-valid_token_check c = passed_on _ 2 _ _ (omega arith) c.from_residual-in_err-valid_token_check.ensures c.in_err-valid_token_check.ensures
 
 pub returns : goal.returns
 unfolding initialize_number

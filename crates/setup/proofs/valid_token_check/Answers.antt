@@ -1,12 +1,13 @@
 -- `setup::valid_token_check` meets its contract.
+use Rattle.refusal.specs.Laws.{passed_on}
 use Rattle.setup.specs.Setup.{valid_token_number}
 use Rattle.fields.specs.Rules.{link_at_lem, ends_at}
 use native.Mathlib.Omega.{arith}
 use Rattle.setup.proofs.valid_token_check.Goals as goal
 
-pub returns-then-k-ne0 : goal.returns-then-k-ne0
+pub returns-in_err-zero_token_check : goal.returns-in_err-zero_token_check
 unfolding valid_token_number
-returns-then-k-ne0 c = link_at_lem _ 0 _ (omega arith) c.zero_token_check-k.ensures
+returns-in_err-zero_token_check c = passed_on _ 0 _ _ tt c.from_residual.ensures c.in_err-zero_token_check.ensures
 
 pub returns : goal.returns
 unfolding valid_token_number

@@ -7,14 +7,14 @@ use mathlib.Core.Path.{refl, sym, ◌∙◌}
 use borrow.Author.Rules.{rules}
 use Rattle.views.proofs.effective_withdraw_limit_of.Goals as goal
 
-pub returns-then-k-ne0 : goal.returns-then-k-ne0
+pub returns-in_err-effective_check : goal.returns-in_err-effective_check
 unfolding effective_outcome
-returns-then-k-ne0 c = view_refused _ c.refuse.ensures c.effective_check-k.ensures c.if-k-ne0.true
+returns-in_err-effective_check c = view_refused _ c.from_residual.ensures c.in_err-effective_check.ensures
 
 pub effective_value-requires : goal.effective_value-requires
 unfolding effective_number
-effective_value-requires c = let u = unlinked _ (sym c.effective_check-k.ensures ∙ c.if-k-ne0.false) in (search rules, initialised_free _ refl u.1.0)
+effective_value-requires c = let u = unlinked _ (sym c.in_ok-effective_check.ensures) in (search rules, initialised_free _ refl u.1.0)
 
 pub returns : goal.returns
 unfolding effective_outcome
-returns c = view_accepted (sym c.effective_check-k.ensures ∙ c.if-k-ne0.false) c.viewed.ensures c.effective_value.ensures
+returns c = view_accepted (sym c.in_ok-effective_check.ensures) c.viewed.ensures c.effective_value.ensures

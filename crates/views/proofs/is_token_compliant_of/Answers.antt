@@ -10,10 +10,10 @@ pub returns-then-t-eq0 : goal.returns-then-t-eq0
 unfolding compliant_outcome compliant_number
 returns-then-t-eq0 c = rw (eq-eqb c.args.t 0 c.if-t-eq0.true) (view_accepted refl c.viewed.ensures (omega arith))
 
-pub returns-then-k-ne0 : goal.returns-then-k-ne0
+pub returns-in_err-presence_check : goal.returns-in_err-presence_check
 unfolding compliant_outcome compliant_number
-returns-then-k-ne0 c = rw (ne_eqb c.args.t 0 c.if-t-eq0.false) (view_refused _ c.refuse.ensures c.presence_check-k.ensures c.if-k-ne0.true)
+returns-in_err-presence_check c = rw (ne_eqb c.args.t 0 c.if-t-eq0.false) (view_refused _ c.from_residual.ensures c.in_err-presence_check.ensures)
 
 pub returns : goal.returns
 unfolding compliant_outcome compliant_number
-returns c = rw (ne_eqb c.args.t 0 c.if-t-eq0.false) (view_accepted (sym c.presence_check-k.ensures ∙ c.if-k-ne0.false) c.viewed-2.ensures (omega arith))
+returns c = rw (ne_eqb c.args.t 0 c.if-t-eq0.false) (view_accepted (sym c.in_ok-presence_check.ensures) c.viewed-2.ensures (omega arith))

@@ -1,4 +1,5 @@
 -- `views::withdraw_cap_check` meets its contract.
+use Rattle.amount.specs.Laws.{num_true, num_false}
 use Rattle.views.specs.Views.{withdraw_cap_number}
 use Rattle.fields.specs.Rules.{stop_at}
 use native.Mathlib.Omega.{arith}
@@ -13,10 +14,10 @@ pub returns-then-is_insider-ne1 : goal.returns-then-is_insider-ne1
 unfolding withdraw_cap_number
 returns-then-is_insider-ne1 c = stop_at _ 1 _ (omega arith) refl
 
-pub returns-then-flag_of-ne1 : goal.returns-then-flag_of-ne1
+pub returns-then-not-has_flag : goal.returns-then-not-has_flag
 unfolding withdraw_cap_number
-returns-then-flag_of-ne1 c = stop_at _ 2 _ (omega arith) refl
+returns-then-not-has_flag c = stop_at _ 2 _ (omega (arith, num_false c.has_flag.ensures c.if-not-has_flag.true)) refl
 
 pub returns : goal.returns
 unfolding withdraw_cap_number
-returns c = stop_at _ 3 _ (omega arith) refl
+returns c = stop_at _ 3 _ (omega (arith, num_true c.has_flag.ensures c.if-not-has_flag.false)) refl
