@@ -36,7 +36,7 @@ fn overflow_check(a: Amount, n: Amount) -> Result<(), Refusal>
     requires { bias ≤ biased n }
     ensures { code result ≡ overflow_number (biased a) (biased n) }
 {
-    if amount::passes(a, n) != 0 {
+    if a.checked_add(n).is_none() {
         return Err(Refusal::ArithmeticOverflow);
     }
     Ok(())
@@ -71,10 +71,10 @@ fn add_credit(img: &mut [u8], t: u8, account: u8, n: Amount)
     let i = t as usize;
     let a = account as usize;
     let old = storage::get_token_account_balance(img, i, a);
-    if amount::passes(old, n) != 0 {
+    let Some(sum) = old.checked_add(n) else {
         return;
-    }
-    storage::set_token_account_balance(img, i, a, old + n);
+    };
+    storage::set_token_account_balance(img, i, a, sum);
 }
 
 // What follows the transfer: credit, snapshot and event.
