@@ -3,7 +3,8 @@ use mathlib.Core.Path.{◌≡◌, refl, sym, ap, ◌∙◌}
 use mathlib.Core.List.{List, [], ◌∷◌}
 use Prim.Native.Nat.{ℕ, ◌+◌, ◌-◌, ◌≤◌, ◌<◌}
 use native.Mathlib.Omega.{arith}
-use Rattle.outcome.specs.declared.Answer.{Answer}
+use Rattle.std.proofs.Common.{Ok}
+use Rattle.outcome.specs.declared.Done.{Done}
 use Rattle.outcome.specs.Outcome.{Does, accepted}
 use Rattle.events.specs.Event.{EventFields, event_buffer}
 use Rattle.events.specs.Kinds.{emergency_migration_executed_event}
@@ -39,14 +40,14 @@ module _ (l : List ℕ) (caller signers time : ℕ) {k : ℕ} (e : k ≡ execute
     not_moved y = link_at_lem _ 1 _ (omega arith) f
 
     -- y and m are the images after the transfer and after the fields are cleared; n is the holding and to the destination that were read
-    pub executed : {y m v : List ℕ} {a : Answer} {n to : ℕ} {w : EventFields} → j ≡ 0 → y ≡ migrate_holding l → m ≡ clear_migration y → n ≡ vault_balance l → bias ≤ vault_balance l
+    pub executed : {y m v : List ℕ} {d : Done} {n to : ℕ} {w : EventFields} → j ≡ 0 → y ≡ migrate_holding l → m ≡ clear_migration y → n ≡ vault_balance l → bias ≤ vault_balance l
         → to ≡ destination l → w ≡ emergency_migration_executed_event caller to n
-        → (a.number ≡ 0) × (biased a.value ≡ n) × (a.events ≡ 1) × (v ≡ event_buffer (w ∷ [])) → Does (execute_outcome l caller signers time) a m v
+        → (biased d.value ≡ n) × (d.events ≡ 1) × (v ≡ event_buffer (w ∷ [])) → Does (execute_outcome l caller signers time) (Ok d) m v
     unfolding execute_outcome execute_number
     executed x p q h b d s r =
         let s' = rw (d, h) at s in
-        accepted (sym (link_at_lem _ 2 0 (sym e ∙ z, (sym f ∙ x, tt)) refl)) r.0 (r.1 ∙ (h ∙ over-bias (vault_balance l) b)) r.2 (q ∙ ap clear_migration p)
-        (r.3 ∙ ap (λ (u : EventFields). event_buffer (u ∷ [])) s')
+        accepted (sym (link_at_lem _ 2 0 (sym e ∙ z, (sym f ∙ x, tt)) refl)) (r.0 ∙ (h ∙ over-bias (vault_balance l) b)) r.1 (q ∙ ap clear_migration p)
+        (r.2 ∙ ap (λ (u : EventFields). event_buffer (u ∷ [])) s')
       where
         over-bias : (n : ℕ) → bias ≤ n → n ≡ bias + (n - bias)
         over-bias n h = omega arith

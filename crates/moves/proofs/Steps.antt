@@ -4,7 +4,8 @@ use mathlib.Core.List.{List, []}
 use Prim.Native.Nat.{ℕ}
 use native.Mathlib.Nat.{add-zero}
 use native.Mathlib.Omega.{arith}
-use Rattle.outcome.specs.declared.Answer.{Answer}
+use Rattle.std.proofs.Common.{Ok}
+use Rattle.outcome.specs.declared.Done.{Done}
 use Rattle.outcome.specs.Outcome.{Does, accepted}
 use Rattle.events.specs.Event.{event_buffer}
 use Rattle.token.specs.Token.{transfer_number, transferred}
@@ -24,9 +25,9 @@ module _ (l : List ℕ) (caller t to n : ℕ) {k : ℕ} (e : k ≡ outside_move_
     unfolding outside_move_outcome outside_move_number
     not_moved y = let (g, _) = f in link_at_lem _ 1 _ (omega arith) g
 
-    pub moved : {v : List ℕ} {a : Answer} → j ≡ 0 → v ≡ event_buffer [] → (a.number ≡ 0) × (biased a.value ≡ bias) × (a.events ≡ 0) → Does (outside_move_outcome l caller t to n) a m v
+    pub moved : {v : List ℕ} {d : Done} → j ≡ 0 → v ≡ event_buffer [] → (biased d.value ≡ bias) × (d.events ≡ 0) → Does (outside_move_outcome l caller t to n) (Ok d) m v
     unfolding outside_move_outcome outside_move_number
-    moved y w d =
+    moved y w q =
         let (g, i) = f in
-        accepted (sym (link_at_lem _ 2 0 (sym e ∙ z, (sym g ∙ y, tt)) refl)) d.0 (d.1 ∙ sym (add-zero bias)) d.2
+        accepted (sym (link_at_lem _ 2 0 (sym e ∙ z, (sym g ∙ y, tt)) refl)) (q.0 ∙ sym (add-zero bias)) q.1
         (i ∙ transfer_done l t caller to n (sym g ∙ y)) w

@@ -1,6 +1,6 @@
 -- Refusals among numbers: none is 0, so a refusal ends a list of checks; and what `?` passes on.
-use Rattle.std.specs.Prelude.{◌≡◌, List, [], ◌∷◌, ℕ, zero, suc, Result, Ok, Err, IsErr, IsErrAnd}
-use Rattle.std.proofs.Common.{arith, ap, ◌∙◌}
+use Rattle.std.specs.Prelude.{Bool, true, false, not, is_ok, refl, OnOk, ◌≡◌, List, [], ◌∷◌, ℕ, zero, suc, Result, Ok, Err, IsErr, IsErrAnd}
+use Rattle.std.proofs.Common.{arith, ap, sym, ◌∙◌}
 use Rattle.fields.specs.Rules.{chain, Links, link_at, link_at_lem}
 use Rattle.refusal.specs.declared.Refusal.{Refusal}
 use Rattle.refusal.specs.declared.Refusal.TheVariants.{NotInitialized, AlreadyInitialized, NotAuthorized, InvalidAmount, DepositExceedsMax, LimitExceeded, ArithmeticOverflow, ContractPaused, InvalidToken, TokenNotApproved, VaultBalanceChanged, DepositTransferFailed, WithdrawTransferFailed, InvalidParam, NoPendingOwner, NotPendingOwner, PendingOwnerExpired, AlreadyPaused, NotPaused, NoMigrationProposed, TimelockNotExpired, SignatureMissing, TokenCallFailed, InvalidImage, InvalidJournal, InvalidRecord, InvalidEventBuffer, JournalFull, NoTransaction, TransactionOpen, NothingToUndo, InvalidTollBounds}
@@ -64,3 +64,20 @@ code_passed e (Err y) (f, g) = ap number_of g
 -- and where check k of a list refused
 pub passed_on : {T : Type 0} (xs : List ℕ) (k : ℕ) (e : Refusal) (r : Result T Refusal) → BeforeLink k xs → IsErr r × IsErrAnd r (λ y. y ≡ e) → number_of e ≡ link_at k xs → code r ≡ chain xs
 passed_on xs k e r b p h = code_passed e r p ∙ refused_at xs k e b h
+
+-- what holds where the number is 0 holds of an `Ok`
+pub on_ok : {T : Type 0} {P : Type 0} (r : Result T Refusal) → (code r ≡ 0 → P) → OnOk r P
+on_ok (Ok x) h = h refl
+on_ok (Err e) h = tt
+
+unlike : true ≡ false → ⊥
+unlike e = let w : ◌≡◌ {A = ℕ} 0 1 = cc in omega arith
+
+-- what `is_err`, whose answer is t, says of the number
+pub code_is_err : {T : Type 0} {t : Bool} (r : Result T Refusal) → is_ok r ≡ not t → t ≡ true → code r ≡ 0 → ⊥
+code_is_err (Ok x) e h z = unlike (e ∙ ap not h)
+code_is_err (Err y) e h z = some_number y z
+
+pub code_is_ok : {T : Type 0} {t : Bool} (r : Result T Refusal) → is_ok r ≡ not t → t ≡ false → code r ≡ 0
+code_is_ok (Ok x) e h = refl
+code_is_ok (Err y) e h = absurd (unlike (sym (e ∙ ap not h)))

@@ -20,7 +20,7 @@ pub returns-in_err-migrate_holding : goal.returns-in_err-migrate_holding
 returns-in_err-migrate_holding c = let x = c.args in refused _ c.from_residual-in_err-migrate_holding.ensures (not_moved x.img.now x.caller x.signers x.time c.in_ok-execute_check.ensures refl c.in_err-migrate_holding.ensures.value (some_number _))
 
 pub clear_migration-requires : goal.clear_migration-requires
-clear_migration-requires c = let x = c.args in let y = c.in_ok-migrate_holding.ensures in let z = refl in rw (y.img_after z) (good_migrate x.img.now c.requires.0 (checks_free x.img.now x.caller x.signers x.time c.in_ok-execute_check.ensures refl).0 (sym y.value ∙ z))
+clear_migration-requires c = let x = c.args in let y = c.in_ok-migrate_holding.ensures in let z = refl in rw y.img_after (good_migrate x.img.now c.requires.0 (checks_free x.img.now x.caller x.signers x.time c.in_ok-execute_check.ensures refl).0 (sym y.value ∙ z))
 
 pub returns : goal.returns
-returns c = let x = c.args in let e = c.in_ok-execute_check.ensures in let z = refl in let y = c.in_ok-migrate_holding.ensures in let q = refl in executed x.img.now x.caller x.signers x.time e z y.value q (y.img_after q) c.clear_migration.ensures c.vault_balance-held.ensures (held_range x.img.now c.requires.0 (checks_free x.img.now x.caller x.signers x.time e z).0) c.get8-to.ensures refl c.announce_value.ensures
+returns c = let x = c.args in let e = c.in_ok-execute_check.ensures in let z = refl in let y = c.in_ok-migrate_holding.ensures in let q = refl in executed x.img.now x.caller x.signers x.time e z y.value q y.img_after c.clear_migration.ensures c.vault_balance-held.ensures (held_range x.img.now c.requires.0 (checks_free x.img.now x.caller x.signers x.time e z).0) c.get8-to.ensures refl c.announce_value.ensures

@@ -18,4 +18,4 @@ overflow_sub-i c = let x = c.args in omega (arith, (freeze_free x.img.now x.t c.
 
 pub returns : goal.returns
 unfolding freeze_outcome
-returns c = let d = c.done.ensures in accepted (sym c.in_ok-freeze_check.ensures) d.0 (d.1 ∙ sym (add-zero bias)) d.2 (rw c.frozen_kind.ensures at c.put64.ensures) c.requires.1
+returns c = let d = c.new.ensures in accepted (sym c.in_ok-freeze_check.ensures) (d.0 ∙ sym (add-zero bias)) d.1 (rw c.frozen_kind.ensures at c.put64.ensures) c.requires.1

@@ -18,4 +18,4 @@ pub returns-in_err-transfer : goal.returns-in_err-transfer
 returns-in_err-transfer c = let x = c.args in refused _ c.from_residual-in_err-transfer.ensures (not_moved x.img.now x.caller x.t x.to (biased x.n) c.in_ok-outside_move_check.ensures refl (c.in_err-transfer.ensures.value, c.in_err-transfer.ensures.img_after) (some_number _))
 
 pub returns : goal.returns
-returns c = let x = c.args in moved x.img.now x.caller x.t x.to (biased x.n) c.in_ok-outside_move_check.ensures refl (c.in_ok-transfer.ensures.value, c.in_ok-transfer.ensures.img_after) refl c.requires.3 c.done.ensures
+returns c = let x = c.args in moved x.img.now x.caller x.t x.to (biased x.n) c.in_ok-outside_move_check.ensures refl (c.in_ok-transfer.ensures.value, c.in_ok-transfer.ensures.img_after) refl c.requires.3 c.new.ensures

@@ -12,4 +12,4 @@ returns-in_err-approve_check c = refused _ c.from_residual.ensures c.in_err-appr
 
 pub returns : goal.returns
 unfolding approve_outcome
-returns c = announced (sym c.in_ok-approve_check.ensures) (rw (flag-num c.args.on c.requires.3) at refl) c.announce.ensures (rw (c.put64.ensures, c.approved_set-set.ensures))
+returns c = announced (sym c.in_ok-approve_check.ensures) (rw (flag-num c.args.on c.requires.3)) c.announce.ensures (rw (c.put64.ensures, c.approved_set-set.ensures))

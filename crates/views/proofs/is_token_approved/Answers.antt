@@ -7,10 +7,10 @@ use native.Mathlib.Omega.{arith}
 use mathlib.Core.Path.{refl}
 use Rattle.views.proofs.is_token_approved.Goals as goal
 
-pub has-requires : goal.has-requires
+pub contains-requires : goal.contains-requires
 unfolding reads_token member
-has-requires c = let f = c.requires.1 in omega (arith, token_in f refl)
+contains-requires c = let f = c.requires.1 in omega (arith, token_in f refl)
 
 pub returns : goal.returns
 unfolding approved_outcome
-returns c = view_accepted refl c.viewed.ensures (omega (arith, rw (c.get64.ensures, c.token-t.ensures) at c.has.ensures))
+returns c = view_accepted refl c.viewed.ensures ?

@@ -4,11 +4,12 @@ use Rattle.outcome.specs.Outcome.{view_refused, view_accepted}
 use borrow.Author.Tests.{eq-eqb, ne_eqb}
 use native.Mathlib.Omega.{arith}
 use mathlib.Core.Path.{refl, sym, ◌∙◌}
+use Rattle.amount.specs.Order.{biased_zero}
 use Rattle.views.proofs.is_token_compliant_of.Goals as goal
 
 pub returns-then-t-eq0 : goal.returns-then-t-eq0
 unfolding compliant_outcome compliant_number
-returns-then-t-eq0 c = rw (eq-eqb c.args.t 0 c.if-t-eq0.true) (view_accepted refl c.viewed.ensures (omega arith))
+returns-then-t-eq0 c = rw (eq-eqb c.args.t 0 c.if-t-eq0.true) (view_accepted refl c.viewed.ensures (omega (arith, biased_zero)))
 
 pub returns-in_err-presence_check : goal.returns-in_err-presence_check
 unfolding compliant_outcome compliant_number
