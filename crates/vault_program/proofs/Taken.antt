@@ -15,7 +15,7 @@ use Rattle.vault_program.proofs.Short.{answered, short_record, short_image, answ
 
 -- ---- one record
 module _ (l b : List ℕ) where
-  text_some : (n : ℕ) → 0 < n → answer_line (record_step l (take n b)).answer ≡ read_text l b n
+  pub text_some : (n : ℕ) → 0 < n → answer_line (record_step l (take n b)).answer ≡ read_text l b n
   unfolding read_text
   text_some zero h = absurd (omega arith)
   text_some (suc n) h = refl

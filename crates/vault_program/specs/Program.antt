@@ -4,7 +4,9 @@ use Rattle.std.proofs.Common.{sym, ap, ◌∙◌, append-nil, arith}
 use Rattle.std.proofs.Math.IntN.{sub_ℕ}
 use Rattle.amount.specs.Biased.{bias, amount_at}
 use Rattle.amount.specs.Laws.{subℕ_ge}
+use Rattle.amount.specs.Value.{value}
 use Rattle.answer_line.specs.Decimal.{line}
+use Rattle.answer_line.specs.declared.Answer.{Answer as Printed}
 use Rattle.events.specs.Splice.{amount_bytes, amount_at-amount_bytes}
 use Rattle.journal.specs.Calls.{Answer, Step, Call}
 use Rattle.journal.specs.Step.{vault, blank}
@@ -18,6 +20,10 @@ signed_at l = sub_ℕ (amount_at l 0) bias
 -- the line of an answer, from the bytes of its value that a call hands out
 unfoldable pub answer_line : Answer → List ℕ
 answer_line a = line a.number (signed_at (amount_bytes (bias + a.value))) a.count
+
+-- the line of what is printed
+abbrev pub text_of : Printed → List ℕ
+text_of a = line a.number (value a.value) a.events
 
 -- the step of a record r at the image l: no journal, and a blank event buffer
 unfoldable pub record_step : (l r : List ℕ) → Step

@@ -1,4 +1,5 @@
 -- `answer_record` meets its contract.
+use Rattle.std.proofs.Common.{refl}
 use Rattle.journal.specs.Step.{blank}
 use Rattle.vault_program.specs.Program.{record_step}
 use Rattle.vault_program.proofs.Printed.{prints}
@@ -6,4 +7,4 @@ use Rattle.vault_program.proofs.answer_record.Goals as goal
 
 pub returns : goal.returns
 unfolding record_step blank
-returns c = let w = c.write_line.ensures in (prints c.call_without_journal-number.ensures c.read_value-v.ensures w.0, w.1)
+returns c = prints c.call_without_journal-number.ensures c.read_value.ensures refl

@@ -9,7 +9,7 @@ pub slice_bounds-print_answer-end-then-image_read-lt36832 : goal.slice_bounds-pr
 slice_bounds-print_answer-end-then-image_read-lt36832 g c = sym (length-take-le _ _ (omega arith))
 
 pub returns-then-image_read-lt36832 : goal.returns-then-image_read-lt36832
-returns-then-image_read-lt36832 g c = (taken_none _ _ (omega arith) (omega arith) c.print_answer-printed.ensures.0, refl)
+returns-then-image_read-lt36832 g c = (taken_none _ _ (omega arith) (omega arith) (record { printed = refl; carried = c.print_answer-written.ensures.carried }), refl)
 
 pub returns : goal.returns
-returns g c = (taken_whole _ _ (omega arith) c.all_records-records.ensures, refl)
+returns g c = (taken_whole _ _ (omega arith) c.all_records-taken.ensures, refl)
