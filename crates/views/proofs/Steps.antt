@@ -1,5 +1,8 @@
 -- The values of the views, from what the functions called say.
-use mathlib.Core.Path.{◌≡◌}
+use mathlib.Core.Bool.{Bool, true, false}
+use mir.Val.{bool_byte}
+use Rattle.amount.specs.Biased.{num}
+use mathlib.Core.Path.{◌≡◌, refl}
 use mathlib.Core.List.{List}
 use Prim.Native.Nat.{ℕ, ◌+◌, ◌≤◌, ◌<◌}
 use native.Mathlib.Omega.{arith}
@@ -43,3 +46,8 @@ no_token l t a h e = rw (lt-ltb t 48 h) (omega arith)
 pub token-credit : (l : List ℕ) (t a : ℕ) {z : ℕ} → Good l → 48 ≤ t → t < 64 → a < 64 → z ≡ credit l (slot t) a → z ≡ bias + account_balance l t a
 unfolding account_balance
 token-credit l t a g low high ah e = let (b, _) = credit_range l (slot t) a g (omega arith) ah in rw (le-ltb t 48 low) (omega arith)
+
+-- `u64::from` of a bool is its number
+pub byte_num : (b : Bool) → bool_byte b ≡ num b
+byte_num true = refl
+byte_num false = refl

@@ -1,7 +1,7 @@
 -- `handover::accept_check` meets its contract.
 use Rattle.refusal.specs.Laws.{passed_on}
 use Rattle.handover.specs.Handover.{accept_number}
-use Rattle.fields.specs.Rules.{link_at_lem, ends_at}
+use Rattle.fields.specs.Rules.{ends_at}
 use native.Mathlib.Omega.{arith}
 use Rattle.handover.proofs.accept_check.Goals as goal
 

@@ -1,7 +1,7 @@
 -- `handover::accept_owner_of` meets its contract.
 use Rattle.handover.specs.Handover.{accept_outcome}
 use Rattle.outcome.specs.Outcome.{refused, announced}
-use mathlib.Core.Path.{sym, ◌∙◌}
+use mathlib.Core.Path.{sym}
 use Rattle.handover.proofs.accept_owner_of.Goals as goal
 
 pub returns-in_err-accept_check : goal.returns-in_err-accept_check

@@ -2,7 +2,7 @@
 use mathlib.Core.Path.{refl}
 use Rattle.handover.specs.Handover.{propose_outcome}
 use Rattle.outcome.specs.Outcome.{refused, announced}
-use mathlib.Core.Path.{sym, ◌∙◌}
+use mathlib.Core.Path.{sym}
 use Rattle.handover.proofs.propose_owner_of.Goals as goal
 
 pub returns-in_err-propose_check : goal.returns-in_err-propose_check

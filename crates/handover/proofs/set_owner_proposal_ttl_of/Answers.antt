@@ -1,7 +1,7 @@
 -- `handover::set_owner_proposal_ttl_of` meets its contract.
 use Rattle.handover.specs.Handover.{proposal_ttl_outcome}
 use Rattle.outcome.specs.Outcome.{refused, announced}
-use mathlib.Core.Path.{sym, ◌∙◌}
+use mathlib.Core.Path.{sym}
 use Rattle.handover.proofs.set_owner_proposal_ttl_of.Goals as goal
 
 pub returns-in_err-proposal_ttl_check : goal.returns-in_err-proposal_ttl_check

@@ -2,7 +2,7 @@
 use mathlib.Core.Path.{refl}
 use Rattle.migration.specs.Migration.{cancel_outcome}
 use Rattle.outcome.specs.Outcome.{refused, announced}
-use mathlib.Core.Path.{sym, ◌∙◌}
+use mathlib.Core.Path.{sym}
 use Rattle.migration.proofs.cancel_emergency_migration_of.Goals as goal
 
 pub returns-in_err-cancel_check : goal.returns-in_err-cancel_check

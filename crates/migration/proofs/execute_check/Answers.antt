@@ -1,7 +1,7 @@
 -- `migration::execute_check` meets its contract.
 use Rattle.refusal.specs.Laws.{passed_on}
 use Rattle.migration.specs.Migration.{execute_checks}
-use Rattle.fields.specs.Rules.{link_at_lem, ends_at}
+use Rattle.fields.specs.Rules.{ends_at}
 use native.Mathlib.Omega.{arith}
 use Rattle.migration.proofs.execute_check.Goals as goal
 

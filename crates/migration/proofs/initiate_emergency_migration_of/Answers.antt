@@ -4,7 +4,7 @@ use Rattle.migration.proofs.Laws.{initiate_free}
 use native.Mathlib.Omega.{arith}
 use Rattle.migration.specs.Migration.{initiate_outcome}
 use Rattle.outcome.specs.Outcome.{refused, announced}
-use mathlib.Core.Path.{sym, ◌∙◌}
+use mathlib.Core.Path.{sym}
 use Rattle.migration.proofs.initiate_emergency_migration_of.Goals as goal
 
 pub returns-in_err-initiate_check : goal.returns-in_err-initiate_check

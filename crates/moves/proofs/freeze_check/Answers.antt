@@ -9,8 +9,8 @@ use Rattle.moves.proofs.freeze_check.Goals as goal
 
 pub returns-then-is_err : goal.returns-then-is_err
 unfolding freeze_number
-returns-then-is_err c = stop_at _ 0 _ (λ z. code_is_err c.presence_check.result c.is_err.ensures c.if-is_err.true (c.presence_check.ensures ∙ z)) refl
+returns-then-is_err c = stop_at _ 0 _ (λ z. code_is_err c.presence_check.result c.is_err.ensures.negation c.if-is_err.true (c.presence_check.ensures ∙ z)) refl
 
 pub returns : goal.returns
 unfolding freeze_number
-returns c = stop_at _ 1 _ (omega (arith, code_is_ok c.presence_check.result c.is_err.ensures c.if-is_err.false)) refl
+returns c = stop_at _ 1 _ (omega (arith, code_is_ok c.presence_check.result c.is_err.ensures.negation c.if-is_err.false)) refl

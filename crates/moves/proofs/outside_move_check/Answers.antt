@@ -1,7 +1,7 @@
 -- `moves::outside_move_check` meets its contract.
 use Rattle.refusal.specs.Laws.{passed_on}
 use Rattle.moves.specs.Outside.{outside_move_checks}
-use Rattle.fields.specs.Rules.{link_at_lem, ends_at}
+use Rattle.fields.specs.Rules.{ends_at}
 use native.Mathlib.Omega.{arith}
 use Rattle.moves.proofs.outside_move_check.Goals as goal
 

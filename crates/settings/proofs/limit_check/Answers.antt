@@ -3,7 +3,7 @@ use Rattle.refusal.specs.Laws.{passed_on}
 use mathlib.Core.Path.{refl}
 use Rattle.checks.specs.Passed.{initialised_free}
 use Rattle.settings.specs.Settings.{limit_set_number}
-use Rattle.fields.specs.Rules.{link_at_lem, ends_at}
+use Rattle.fields.specs.Rules.{ends_at}
 use native.Mathlib.Omega.{arith}
 use borrow.Author.Rules.{rules}
 use Rattle.settings.proofs.limit_check.Goals as goal

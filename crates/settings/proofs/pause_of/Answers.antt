@@ -2,7 +2,7 @@
 use mathlib.Core.Path.{refl}
 use Rattle.settings.specs.Settings.{pause_outcome}
 use Rattle.outcome.specs.Outcome.{refused, announced}
-use mathlib.Core.Path.{sym, ◌∙◌}
+use mathlib.Core.Path.{sym}
 use Rattle.settings.proofs.pause_of.Goals as goal
 
 pub returns-in_err-pause_check : goal.returns-in_err-pause_check

@@ -2,7 +2,7 @@
 use mathlib.Core.Path.{refl}
 use Rattle.settings.specs.Settings.{operator_revoked_outcome}
 use Rattle.outcome.specs.Outcome.{refused, announced}
-use mathlib.Core.Path.{sym, ◌∙◌}
+use mathlib.Core.Path.{sym}
 use Rattle.settings.proofs.revoke_operator_of.Goals as goal
 
 pub returns-in_err-owner_gate : goal.returns-in_err-owner_gate

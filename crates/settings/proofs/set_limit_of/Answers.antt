@@ -1,7 +1,7 @@
 -- `settings::set_limit_of` meets its contract.
 use Rattle.settings.specs.Settings.{limit_set_outcome}
 use Rattle.outcome.specs.Outcome.{refused, announced}
-use mathlib.Core.Path.{sym, ◌∙◌}
+use mathlib.Core.Path.{sym}
 use Rattle.settings.proofs.set_limit_of.Goals as goal
 
 pub returns-in_err-limit_check : goal.returns-in_err-limit_check

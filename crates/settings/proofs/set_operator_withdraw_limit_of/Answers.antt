@@ -1,7 +1,7 @@
 -- `settings::set_operator_withdraw_limit_of` meets its contract.
 use Rattle.settings.specs.Settings.{operator_limit_outcome}
 use Rattle.outcome.specs.Outcome.{refused, announced}
-use mathlib.Core.Path.{sym, ◌∙◌}
+use mathlib.Core.Path.{sym}
 use Rattle.settings.proofs.set_operator_withdraw_limit_of.Goals as goal
 
 pub returns-in_err-operator_limit_check : goal.returns-in_err-operator_limit_check

@@ -1,7 +1,7 @@
 -- `settings::token_max_limit_check` meets its contract.
 use Rattle.refusal.specs.Laws.{passed_on}
 use Rattle.settings.specs.Settings.{token_max_limit_number}
-use Rattle.fields.specs.Rules.{link_at_lem, ends_at}
+use Rattle.fields.specs.Rules.{ends_at}
 use native.Mathlib.Omega.{arith}
 use Rattle.settings.proofs.token_max_limit_check.Goals as goal
 

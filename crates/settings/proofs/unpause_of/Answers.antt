@@ -2,7 +2,7 @@
 use mathlib.Core.Path.{refl}
 use Rattle.settings.specs.Settings.{unpause_outcome}
 use Rattle.outcome.specs.Outcome.{refused, announced}
-use mathlib.Core.Path.{sym, ◌∙◌}
+use mathlib.Core.Path.{sym}
 use Rattle.settings.proofs.unpause_of.Goals as goal
 
 pub returns-in_err-unpause_check : goal.returns-in_err-unpause_check

@@ -4,7 +4,7 @@ use Rattle.setup.specs.Setup.{approve_number}
 use Rattle.fields.specs.Rules.{link_at_lem, ends_at}
 use borrow.Author.Tests.{eq-eqb, ne_eqb}
 use native.Mathlib.Omega.{arith}
-use mathlib.Core.Path.{refl, sym, ◌∙◌}
+use mathlib.Core.Path.{refl, sym}
 use Rattle.setup.proofs.approve_check.Goals as goal
 
 pub returns-in_err-owner_gate : goal.returns-in_err-owner_gate

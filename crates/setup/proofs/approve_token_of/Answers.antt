@@ -1,9 +1,8 @@
 -- `setup::approve_token_of` meets its contract.
-use mathlib.Core.Path.{refl}
 use Rattle.setup.proofs.Steps.{flag-num}
 use Rattle.setup.specs.Setup.{approve_outcome}
 use Rattle.outcome.specs.Outcome.{refused, announced}
-use mathlib.Core.Path.{sym, ◌∙◌}
+use mathlib.Core.Path.{sym}
 use Rattle.setup.proofs.approve_token_of.Goals as goal
 
 pub returns-in_err-approve_check : goal.returns-in_err-approve_check

@@ -1,7 +1,7 @@
 -- `setup::initialize_check` meets its contract.
 use Rattle.refusal.specs.Laws.{passed_on}
 use Rattle.setup.specs.Setup.{initialize_number}
-use Rattle.fields.specs.Rules.{link_at_lem, ends_at}
+use Rattle.fields.specs.Rules.{ends_at}
 use native.Mathlib.Omega.{arith}
 use Rattle.setup.proofs.initialize_check.Goals as goal
 

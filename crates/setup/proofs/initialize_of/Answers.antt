@@ -2,7 +2,7 @@
 use mathlib.Core.Path.{refl}
 use Rattle.setup.specs.Setup.{initialize_outcome}
 use Rattle.outcome.specs.Outcome.{refused, announced}
-use mathlib.Core.Path.{sym, ◌∙◌}
+use mathlib.Core.Path.{sym}
 use Rattle.setup.proofs.initialize_of.Goals as goal
 
 pub returns-in_err-initialize_check : goal.returns-in_err-initialize_check

@@ -5,7 +5,7 @@ use Rattle.views.specs.Views.{balance_outcome}
 use Rattle.outcome.specs.Outcome.{view_refused, view_accepted}
 use Rattle.checks.specs.Passed.{initialised_free}
 use native.Mathlib.Omega.{arith}
-use mathlib.Core.Path.{sym, ◌∙◌}
+use mathlib.Core.Path.{sym}
 use borrow.Author.Rules.{rules}
 use Rattle.views.proofs.balance.Goals as goal
 

@@ -1,7 +1,7 @@
 -- `views::effective_check` meets its contract.
 use Rattle.refusal.specs.Laws.{passed_on}
 use Rattle.views.specs.Views.{effective_number}
-use Rattle.fields.specs.Rules.{link_at_lem, ends_at}
+use Rattle.fields.specs.Rules.{ends_at}
 use native.Mathlib.Omega.{arith}
 use Rattle.views.proofs.effective_check.Goals as goal
 

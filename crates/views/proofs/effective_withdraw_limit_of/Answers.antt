@@ -3,7 +3,7 @@ use Rattle.views.specs.Views.{effective_outcome, effective_number}
 use Rattle.outcome.specs.Outcome.{view_refused, view_accepted}
 use Rattle.checks.specs.Passed.{initialised_free}
 use Rattle.fields.specs.Rules.{unlinked}
-use mathlib.Core.Path.{refl, sym, ◌∙◌}
+use mathlib.Core.Path.{refl, sym}
 use borrow.Author.Rules.{rules}
 use Rattle.views.proofs.effective_withdraw_limit_of.Goals as goal
 

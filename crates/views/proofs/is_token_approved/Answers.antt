@@ -5,6 +5,10 @@ use Rattle.outcome.specs.FormedLaws.{token_in}
 use Rattle.record.specs.Form.{reads_token, member}
 use native.Mathlib.Omega.{arith}
 use mathlib.Core.Path.{refl}
+use mathlib.Core.Path.{ap, ◌∙◌}
+use Prim.Native.Nat.{ℕ, ◌+◌}
+use Rattle.amount.specs.Biased.{bias}
+use Rattle.views.proofs.Steps.{byte_num}
 use Rattle.views.proofs.is_token_approved.Goals as goal
 
 pub contains-requires : goal.contains-requires
@@ -13,4 +17,6 @@ contains-requires c = let f = c.requires.1 in omega (arith, token_in f refl)
 
 pub returns : goal.returns
 unfolding approved_outcome
-returns c = view_accepted refl c.viewed.ensures ?
+returns c =
+    let d = rw (c.get64.ensures, c.token-t.ensures) at c.contains.ensures in
+    view_accepted refl c.viewed.ensures (c.from-2.ensures ∙ rw (c.from.ensures, ← d) (ap (λ (k : ℕ). bias + k) (byte_num c.contains.result)))

@@ -3,7 +3,7 @@ use Rattle.views.specs.Views.{compliant_outcome, compliant_number}
 use Rattle.outcome.specs.Outcome.{view_refused, view_accepted}
 use borrow.Author.Tests.{eq-eqb, ne_eqb}
 use native.Mathlib.Omega.{arith}
-use mathlib.Core.Path.{refl, sym, ◌∙◌}
+use mathlib.Core.Path.{refl, sym}
 use Rattle.amount.specs.Order.{biased_zero}
 use Rattle.views.proofs.is_token_compliant_of.Goals as goal
 
