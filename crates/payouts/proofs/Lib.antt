@@ -1,4 +1,5 @@
 -- Lemmas that the proofs of the payouts share.
+pub mod Sums
 pub mod Steps
 pub mod Loops
 pub mod Whole

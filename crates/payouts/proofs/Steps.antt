@@ -2,10 +2,15 @@
 use mathlib.Core.Path.{◌≡◌, refl, sym, ap, ◌∙◌}
 use mathlib.Core.Bool.{Bool, true, false}
 use mathlib.Core.List.{List, [], ◌∷◌}
-use Prim.Native.Nat.{ℕ, ◌+◌, ◌-◌, ◌≤◌, ◌<◌, min}
+use Prim.Native.Nat.{ℕ, ◌+◌, ◌-◌, ◌≤◌, ◌<◌}
 use native.Mathlib.Omega.{arith}
 use borrow.Author.Tests.{le-leb, lt-leb}
 use lib.Dec.{leb}
+use Rattle.std.proofs.Common.{Result}
+use Rattle.refusal.specs.declared.Refusal.{Refusal}
+use Rattle.refusal.specs.Numbers.{number_of, code}
+use Rattle.refusal.specs.Laws.{code_passed}
+use Rattle.outcome.specs.Outcome.{Refuses}
 use Rattle.checks.specs.Checks.{paused_number, shared_number, amount_number, cap_number, funds_number}
 use Rattle.events.specs.Kinds.{withdrawn_event}
 use Rattle.events.specs.Event.{EventFields, put_event}
@@ -74,27 +79,32 @@ module _ (l : List ℕ) (t to n : ℕ) where
   pub had : {k : ℕ} → k ≡ transfer_number l t 1 to n → k ≡ 0 → n ≤ holding l (slot t) 1
   had e z = (transfer_free l t 1 to n e z).1.1.1.0
 
-  -- y is the image after the transfer, which gave k; h the holding read there, o the one before, d what was to be left, x whether they differ
+  -- y is the image after the transfer, which gave k; h the holding read there, o the one before, d what was to be left
   module _ {y : List ℕ} {k : ℕ} (a : k ≡ transfer_number l t 1 to n) (b : k ≡ 0) (c : y ≡ transferred l t 1 to n) where
     pub sent_is : y ≡ transfer_of l t 1 to n
     sent_is = c ∙ transfer_done l t 1 to n (sym a ∙ b)
 
-    module _ {h o d x : ℕ} (e : h ≡ holding y (slot t) 1) (f : o ≡ holding l (slot t) 1) (g : d ≡ o + bias - n) (q : x ≡ min 1 (d - h + (h - d))) where
+    module _ {h o d : ℕ} (e : h ≡ holding y (slot t) 1) (f : o ≡ holding l (slot t) 1) (g : d ≡ o + bias - n) where
       as_read : h ≡ held_after l t to n
       as_read = e ∙ ap (λ (m : List ℕ). holding m (slot t) 1) sent_is
 
-      pub not_left : (x ≡ 0 → ⊥) → 13 ≡ pay_number l t to n
+      pub not_left : (h ≡ d → ⊥) → 13 ≡ pay_number l t to n
       unfolding pay_number remaining_number
       not_left w =
-          let v : 13 ≡ remaining_number l t to n = stop_at _ 0 13 (λ z. let r = as_read in omega arith) refl in
+          let v : 13 ≡ remaining_number l t to n = stop_at _ 0 13 (λ z. let r = as_read in w (omega arith)) refl in
           link_at_lem _ 1 13 (sym a ∙ b, λ z. omega arith) v
 
-      pub left_as_due : x ≡ 0 → 0 ≡ pay_number l t to n
+      pub left_as_due : h ≡ d → 0 ≡ pay_number l t to n
       unfolding pay_number remaining_number
       left_as_due w =
           let r = as_read in
           let v : 0 ≡ remaining_number l t to n = stop_at _ 1 0 (omega arith, tt) refl in
           link_at_lem _ 2 0 (sym a ∙ b, (sym v, tt)) refl
+
+-- ---- what payouts that refused owe, they owe of the answer that passes the refusal on
+pub passed_pays : {ps : List Payout} {t seq caller by : ℕ} {l e : List ℕ} {i : ℕ} {m v : List ℕ} (x : Refusal) (r : Result (Unit {0}) Refusal) → Refuses r x → Pays ps t seq caller by l e i (number_of x) m v
+    → Pays ps t seq caller by l e i (code r) m v
+passed_pays x r p d = rw (code_passed x r p) d
 
 -- ---- one payout
 module _ (l : List ℕ) (t seq caller by to n : ℕ) {k : ℕ} (a : k ≡ pay_number l t to n) where

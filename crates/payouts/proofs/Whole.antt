@@ -4,7 +4,8 @@ use mathlib.Core.List.{List, [], ◌∷◌, ◌++◌, append-nil, append_assoc}
 use Prim.Native.Nat.{ℕ, suc, ◌+◌, ◌≤◌, ◌<◌}
 use native.Mathlib.Omega.{arith}
 use lib.ListN.{length, length-append}
-use Rattle.outcome.specs.declared.Answer.{Answer}
+use Rattle.std.proofs.Common.{Ok}
+use Rattle.outcome.specs.declared.Done.{Done}
 use Rattle.outcome.specs.Outcome.{Does, accepted}
 use Rattle.events.specs.Kinds.{withdrawn_event}
 use Rattle.events.specs.Event.{EventFields, put_event, event_buffer}
@@ -50,14 +51,13 @@ module _ (l : List ℕ) (t caller signers seq : ℕ) (ps : List Payout) {k : ℕ
     unfolding withdraw_outcome withdraw_number
     paid_out y = link_at_lem _ 1 _ (sym e ∙ z, λ x. y (as_default.numbered ∙ x)) as_default.numbered
 
-    pub withdrawn : {a : Answer} → j ≡ 0 → o ≡ event_buffer [] → length ps ≤ 16 → (a.number ≡ 0) × (biased a.value ≡ bias) × (a.events ≡ length ps)
-        → Does (withdraw_outcome l caller signers seq ps) a m v
+    pub withdrawn : {a : Done} → j ≡ 0 → o ≡ event_buffer [] → length ps ≤ 16 → (biased a.value ≡ bias) × (a.events ≡ length ps) → Does (withdraw_outcome l caller signers seq ps) (Ok a) m v
     unfolding withdraw_outcome withdraw_number
     withdrawn y w few r =
         let c = as_default in
         let n = events_length ps (default_token l) seq caller (by_operator l caller) l in
         let es = payouts_events ps (default_token l) seq caller (by_operator l caller) l in
-        accepted (sym (link_at_lem _ 2 0 (sym e ∙ z, (sym c.numbered ∙ y, tt)) refl)) r.0 (r.1 ∙ sym (add-zero bias)) (r.2 ∙ sym n) (c.changed y)
+        accepted (sym (link_at_lem _ 2 0 (sym e ∙ z, (sym c.numbered ∙ y, tt)) refl)) (r.0 ∙ sym (add-zero bias)) (r.1 ∙ sym n) (c.changed y)
         (c.written y ∙ (ap (λ (b : List ℕ). put_events b 0 es) w ∙ put_all es [] 0 refl (omega arith)))
 
 pub sent_keys : (l : List ℕ) (t to n : ℕ) {y : List ℕ} {j : ℕ} → Good l → to < 64 → bias ≤ n → j ≡ pay_number l t to n → j ≡ 0 → y ≡ transfer_of l t 1 to n → Keys y
@@ -75,11 +75,11 @@ module _ (l : List ℕ) (t caller signers seq to n : ℕ) {k : ℕ} (e : k ≡ w
     token_paid_out y = link_at_lem _ 1 _ (omega arith) f
 
     -- y is the image after the transfer, m and v the image and the events after credit, snapshot and event
-    pub token_withdrawn : {by : ℕ} {y m v : List ℕ} {a : Answer} (o : List ℕ) → by ≡ by_operator l caller → j ≡ 0 → y ≡ transfer_of l t 1 to n → o ≡ event_buffer []
+    pub token_withdrawn : {by : ℕ} {y m v : List ℕ} {a : Done} (o : List ℕ) → by ≡ by_operator l caller → j ≡ 0 → y ≡ transfer_of l t 1 to n → o ≡ event_buffer []
         → (m ≡ record_balance (take_credit y t caller n) t seq (holding y (slot t) 1)) × (v ≡ put_event o 0 (withdrawn_event caller to n (holding y (slot t) 1) by))
-        → (a.number ≡ 0) × (biased a.value ≡ bias) × (a.events ≡ 1) → Does (withdraw_token_outcome l t caller signers seq to n) a m v
+        → (biased a.value ≡ bias) × (a.events ≡ 1) → Does (withdraw_token_outcome l t caller signers seq to n) (Ok a) m v
     unfolding withdraw_token_outcome withdraw_token_number withdraw_token_image
     token_withdrawn o b x q w d r =
         let m' = rw q at d.0 in
         let v' = rw (q, b) at d.1 in
-        accepted (sym (link_at_lem _ 2 0 (sym e ∙ z, (sym f ∙ x, tt)) refl)) r.0 (r.1 ∙ sym (add-zero bias)) r.2 m' (appended [] 0 w refl v' refl (omega arith))
+        accepted (sym (link_at_lem _ 2 0 (sym e ∙ z, (sym f ∙ x, tt)) refl)) (r.0 ∙ sym (add-zero bias)) r.1 m' (appended [] 0 w refl v' refl (omega arith))

@@ -1,7 +1,7 @@
 // Operations 5 `withdraw`, 6 `withdraw_batch` and 8 `withdraw_token` (lib.rs).
 #![tactic(auto)]
 
-ghost use Rattle.std.specs.Prelude.{OnOk, ◌≡◌, [], ◌∷◌, ◌<◌, ◌≤◌, length};
+ghost use Rattle.std.specs.Prelude.{OnOk, IfOk, ◌≡◌, [], ◌∷◌, ◌+◌, ◌-◌, ◌<◌, ◌≤◌, length};
 ghost use Rattle.refusal.specs.Numbers.{code};
 ghost use Rattle.amount.specs.Biased.{bias, biased, num};
 ghost use Rattle.image.specs.Layout.{image_length, slot, holding, initialised};
@@ -71,7 +71,7 @@ fn pay(
     n: Amount,
 ) -> Result<(), Refusal>
     requires { Good img.old × (length events.old ≡ 896) × (i < 16) × (48 ≤ t) × (t < 64) × (to < 64) × (bias ≤ biased n) }
-    ensures { Pays (payout to (biased n) ∷ []) t sequence caller (num by_operator) img.old events.old i result img.new events.new }
+    ensures { Pays (payout to (biased n) ∷ []) t sequence caller (num by_operator) img.old events.old i (code result) img.new events.new }
 {
     send(img, t, to, n)?;
     let held = token::balance(img, t as usize, 1);
@@ -79,9 +79,15 @@ fn pay(
     events::put_event(
         events,
         i,
-        Event::Withdrawn { caller, to, amount: n, new_balance: held, by_operator },
+        Event::Withdrawn {
+            caller,
+            to,
+            amount: n,
+            new_balance: held,
+            by_operator,
+        },
     );
-    0
+    Ok(())
 }
 
 // Payout by payout, each item's event in its place.
@@ -96,7 +102,7 @@ fn pay_items(
     by_operator: bool,
 ) -> Result<(), Refusal>
     requires { Good img.old × (initialised img.old ≡ 1) × (length events.old ≡ 896) × (length rec.now ≡ 448) × (count ≤ 16) × (48 ≤ t) × (t < 64) × Payable (items count 0 rec.now) }
-    ensures { Pays (items count 0 rec.now) t sequence caller (num by_operator) img.old events.old 0 result img.new events.new }
+    ensures { Pays (items count 0 rec.now) t sequence caller (num by_operator) img.old events.old 0 (code result) img.new events.new }
 {
     for i in 0..count {
         let to = record::item_address(rec, i);
@@ -119,7 +125,13 @@ fn withdraw_checks(img: &[u8], caller: u8, signers: u64, to: u8, n: Amount) -> R
 }
 
 // 8; 1, 3, 22; 4; item by item 4, 7; 6; 6.
-fn batch_checks(img: &[u8], rec: &[u8], count: usize, caller: u8, signers: u64) -> Result<(), Refusal>
+fn batch_checks(
+    img: &[u8],
+    rec: &[u8],
+    count: usize,
+    caller: u8,
+    signers: u64,
+) -> Result<(), Refusal>
     requires { Good img.now × (length rec.now ≡ 448) × (count ≤ 16) × (caller < 64) }
     ensures { code result ≡ withdraw_checks img.now caller signers (items count 0 rec.now) }
 {
@@ -183,12 +195,24 @@ fn settle(
     events::put_event(
         events,
         0,
-        Event::Withdrawn { caller, to, amount: n, new_balance: held, by_operator },
+        Event::Withdrawn {
+            caller,
+            to,
+            amount: n,
+            new_balance: held,
+            by_operator,
+        },
     );
 }
 
 // 8; 1, 3, 22; 4; 6; 23; 6; 6.
-fn withdraw_token_checks(img: &[u8], t: u8, caller: u8, signers: u64, n: Amount) -> Result<(), Refusal>
+fn withdraw_token_checks(
+    img: &[u8],
+    t: u8,
+    caller: u8,
+    signers: u64,
+    n: Amount,
+) -> Result<(), Refusal>
     requires { Good img.now × (caller < 64) }
     ensures { code result ≡ withdraw_token_checks img.now t caller signers (biased n) }
 {

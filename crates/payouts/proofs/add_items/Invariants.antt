@@ -1,14 +1,10 @@
 -- `payouts::add_items` meets its contract.
 use Rattle.payouts.specs.Payouts.{items, items_number, items_sum}
 use Rattle.amount.specs.Biased.{bias, biased}
-use Prim.Native.Nat.{◌-◌, ◌≤◌}
+use Prim.Native.Nat.{◌-◌}
 use mathlib.Core.Path.{◌≡◌}
 use Rattle.payouts.proofs.add_items.Given as goal
 
 abbrev pub invariant-loop-i : goal.invariant-loop-i
-invariant-loop-i l = (l.i ≤ l.count)
-    × (items_number (items l.count 0 l.rec) bias ≡ items_number (items (l.count - l.i) l.i l.rec) (biased l.sum))
+invariant-loop-i l = (items_number (items l.count 0 l.rec) bias ≡ items_number (items (l.count - l.i) l.i l.rec) (biased l.sum))
     × (items_sum (items l.count 0 l.rec) bias ≡ items_sum (items (l.count - l.i) l.i l.rec) (biased l.sum))
-
-abbrev pub decreases-loop-i : goal.decreases-loop-i
-decreases-loop-i l = l.count - l.i

@@ -22,17 +22,17 @@ pub returns-then-count-eq0 : goal.returns-then-count-eq0
 unfolding withdraw_checks
 returns-then-count-eq0 c = let x = c.args in let e = no_item x.count x.rec.now (omega arith) in link_at_lem _ 2 _ (omega arith) e
 
-pub returns-then-k3-ne0 : goal.returns-then-k3-ne0
+pub returns-in_err-sum : goal.returns-in_err-sum
 unfolding withdraw_checks
-returns-then-k3-ne0 c = let x = c.args in let e = some_item x.count x.rec.now (omega arith) in link_at_lem _ 3 _ (omega arith) c.add_items-tally.ensures.number_value
+returns-in_err-sum c = let x = c.args in let e = some_item x.count x.rec.now (omega arith) in passed_on _ 3 _ _ (omega arith) c.from_residual-in_err-sum.ensures c.in_err-sum.ensures.number
 
 pub returns-in_err-cap_check : goal.returns-in_err-cap_check
 unfolding withdraw_checks
-returns-in_err-cap_check c = let x = c.args in let e = some_item x.count x.rec.now (omega arith) in let p = c.add_items-tally.ensures in let k = rw (p.sum_value c.if-k3-ne0.false) at c.in_err-cap_check.ensures in link_at_lem _ 4 _ (omega arith) k
+returns-in_err-cap_check c = let x = c.args in let e = some_item x.count x.rec.now (omega arith) in let f = c.in_ok-sum.ensures in let k = rw f.total at c.in_err-cap_check.ensures in passed_on _ 4 _ _ (omega arith) c.from_residual-in_err-cap_check.ensures k
 
 pub balance-requires : goal.balance-requires
 balance-requires c = let (low, high) = default_range c.args.img.now c.requires.0 (shared_free _ _ _ c.in_ok-shared_gate.ensures refl) in (search rules, omega arith, omega arith, omega arith)
 
 pub returns : goal.returns
 unfolding withdraw_checks
-returns c = let x = c.args in let e = some_item x.count x.rec.now (omega arith) in let p = c.add_items-tally.ensures in let s = p.sum_value c.if-k3-ne0.false in let k = rw s at c.in_ok-cap_check.ensures in ends_at _ 5 _ (omega arith) (rw (c.balance.ensures, c.get8.ensures, s) at c.funds_check.ensures)
+returns c = let x = c.args in let e = some_item x.count x.rec.now (omega arith) in let f = c.in_ok-sum.ensures in let k = rw f.total at c.in_ok-cap_check.ensures in ends_at _ 5 _ (omega arith) (rw (c.balance.ensures, c.get8.ensures, f.total) at c.funds_check.ensures)

@@ -1,21 +1,24 @@
 -- `payouts::pay_items` meets its contract.
 use Rattle.payouts.proofs.Loops.{pay_start, pay_end, payee, amount, pay_stop, pay_turn}
+use Rattle.payouts.proofs.Steps.{passed_pays}
+use Rattle.refusal.specs.Laws.{some_number}
+use mathlib.Core.Path.{refl}
 use native.Mathlib.Omega.{arith}
 use Prim.Native.Nat.{◌+◌, ◌-◌}
 use borrow.Author.Rules.{rules}
 use Rattle.payouts.proofs.pay_items.Goals as goal
 
 pub loop-i-init : goal.loop-i-init
-loop-i-init c = let n = c.args.count in (omega arith, search rules, search rules, pay_start _ _ _ _ n (n - 0) _ _ _ (omega arith) c.requires.0 c.requires.1 c.requires.7)
+loop-i-init c = let n = c.args.count in (search rules, search rules, pay_start _ _ _ _ n (n - 0) _ _ _ (omega arith) c.requires.0 c.requires.1 c.requires.7)
 
-pub pay-k-requires : goal.pay-k-requires
-pay-k-requires c = let s = c.args in let l = c.loop-i in let n = s.count - l.i in let o = s.count - (l.i + 1) in (l.invariant.3.good, search rules, omega arith, search rules, search rules, payee n l.i s.rec.now l.invariant.3 o (l.i + 1) (omega arith) (omega arith) c.item_address-to.ensures, amount n l.i s.rec.now l.invariant.3 o (l.i + 1) (omega arith) (omega arith) c.item_amount-n.ensures)
+pub pay-requires : goal.pay-requires
+pay-requires c = let s = c.args in let l = c.loop-i in let n = s.count - l.i in let o = s.count - (l.i + 1) in (l.invariant.2.good, search rules, omega arith, search rules, search rules, payee n l.i s.rec.now l.invariant.2 o (l.i + 1) (omega arith) (omega arith) c.item_address-to.ensures, amount n l.i s.rec.now l.invariant.2 o (l.i + 1) (omega arith) (omega arith) c.item_amount-n.ensures)
 
-pub returns-then-k-ne0 : goal.returns-then-k-ne0
-returns-then-k-ne0 c = let s = c.args in let l = c.loop-i in pay_stop (s.count - l.i) l.i s.rec.now l.invariant.3 (s.count - (l.i + 1)) (l.i + 1) (omega arith) (omega arith) c.item_address-to.ensures c.item_amount-n.ensures c.pay-k.ensures c.if-k-ne0.true
+pub returns-in_err-pay : goal.returns-in_err-pay
+returns-in_err-pay c = let s = c.args in let l = c.loop-i in passed_pays _ _ c.from_residual.ensures (pay_stop (s.count - l.i) l.i s.rec.now l.invariant.2 (s.count - (l.i + 1)) (l.i + 1) (omega arith) (omega arith) c.item_address-to.ensures c.item_amount-n.ensures c.in_err-pay.ensures (some_number _))
 
 pub loop-i-preserved : goal.loop-i-preserved
-loop-i-preserved c = let s = c.args in let l = c.loop-i in (omega arith, search rules, search rules, pay_turn (s.count - l.i) l.i s.rec.now l.invariant.3 (s.count - (l.i + 1)) (l.i + 1) (omega arith) (omega arith) c.item_address-to.ensures c.item_amount-n.ensures c.pay-k.ensures c.if-k-ne0.false)
+loop-i-preserved c = let s = c.args in let l = c.loop-i in (search rules, search rules, pay_turn (s.count - l.i) l.i s.rec.now l.invariant.2 (s.count - (l.i + 1)) (l.i + 1) (omega arith) (omega arith) c.item_address-to.ensures c.item_amount-n.ensures c.in_ok-pay.ensures refl)
 
 pub returns : goal.returns
-returns c = let s = c.args in let l = c.loop-i in pay_end (s.count - l.i) l.i s.rec.now l.invariant.3 (omega arith)
+returns c = let s = c.args in let l = c.loop-i in pay_end (s.count - l.i) l.i s.rec.now l.invariant.2 (omega arith)

@@ -1,6 +1,5 @@
 -- `payouts::settle` meets its contract.
-use mathlib.Core.Path.{refl}
 use Rattle.payouts.proofs.settle.Goals as goal
 
 pub returns : goal.returns
-returns c = record { img_after = rw (c.record_vault_balance.ensures, c.take_credit.ensures, c.balance-held.ensures); events_after = rw (c.put_event.ensures, refl, c.balance-held.ensures) }
+returns c = record { img_after = rw (c.record_vault_balance.ensures, c.take_credit.ensures, c.balance-held.ensures); events_after = rw (c.put_event.ensures, c.balance-held.ensures) }

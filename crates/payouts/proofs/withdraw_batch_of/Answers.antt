@@ -17,4 +17,4 @@ pub returns-in_err-pay_items : goal.returns-in_err-pay_items
 returns-in_err-pay_items c = let x = c.args in refused _ c.from_residual-in_err-pay_items.ensures (paid_out x.img.now _ x.caller x.signers x.sequence (items x.count 0 x.rec.now) c.get8-t.ensures c.in_ok-batch_checks.ensures refl (rw c.get8.ensures) c.in_err-pay_items.ensures (some_number _))
 
 pub returns : goal.returns
-returns c = let x = c.args in let n = items-length x.count 0 x.rec.now in let d = c.done.ensures in withdrawn x.img.now _ x.caller x.signers x.sequence (items x.count 0 x.rec.now) c.get8-t.ensures c.in_ok-batch_checks.ensures refl (rw c.get8.ensures) c.in_ok-pay_items.ensures refl c.requires.good.4 (rw n c.requires.good.2) (d.0, d.1, d.2 ∙ sym n)
+returns c = let x = c.args in let n = items-length x.count 0 x.rec.now in let d = c.new.ensures in withdrawn x.img.now _ x.caller x.signers x.sequence (items x.count 0 x.rec.now) c.get8-t.ensures c.in_ok-batch_checks.ensures refl (rw c.get8.ensures) c.in_ok-pay_items.ensures refl c.requires.good.4 (rw n c.requires.good.2) (d.0, d.1 ∙ sym n)

@@ -17,4 +17,4 @@ pub returns-in_err-pay : goal.returns-in_err-pay
 returns-in_err-pay c = let x = c.args in refused _ c.from_residual-in_err-pay.ensures (paid_out x.img.now _ x.caller x.signers x.sequence _ c.get8-t.ensures c.in_ok-withdraw_checks.ensures refl (rw c.get8.ensures) c.in_err-pay.ensures (some_number _))
 
 pub returns : goal.returns
-returns c = let x = c.args in withdrawn x.img.now _ x.caller x.signers x.sequence _ c.get8-t.ensures c.in_ok-withdraw_checks.ensures refl (rw c.get8.ensures) c.in_ok-pay.ensures refl c.requires.3 (omega arith) c.done.ensures
+returns c = let x = c.args in withdrawn x.img.now _ x.caller x.signers x.sequence _ c.get8-t.ensures c.in_ok-withdraw_checks.ensures refl (rw c.get8.ensures) c.in_ok-pay.ensures refl c.requires.3 (omega arith) c.new.ensures

@@ -3,7 +3,7 @@ use Rattle.refusal.specs.Laws.{passed_on}
 use mathlib.Core.Path.{refl}
 use Rattle.payouts.specs.Token.{withdraw_token_checks}
 use Rattle.token.specs.Laws.{absent_free}
-use Rattle.fields.specs.Rules.{link_at_lem, ends_at}
+use Rattle.fields.specs.Rules.{ends_at}
 use native.Mathlib.Omega.{arith}
 use borrow.Author.Rules.{rules}
 use Rattle.payouts.proofs.withdraw_token_checks.Goals as goal
@@ -33,7 +33,7 @@ balance-requires c = let f = absent_free _ _ c.in_ok-presence_check.ensures refl
 
 pub returns-in_err-funds_check : goal.returns-in_err-funds_check
 unfolding withdraw_token_checks
-returns-in_err-funds_check c = let e = rw c.balance.ensures at c.in_err-funds_check.ensures in link_at_lem _ 5 _ (omega arith) e
+returns-in_err-funds_check c = let e = rw c.balance.ensures at c.in_err-funds_check.ensures in passed_on _ 5 _ _ (omega arith) c.from_residual-in_err-funds_check.ensures e
 
 pub credit_check-requires : goal.credit_check-requires
 credit_check-requires c = let f = absent_free _ _ c.in_ok-presence_check.ensures refl in (search rules, omega arith, omega arith, omega arith)

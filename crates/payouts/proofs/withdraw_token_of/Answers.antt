@@ -18,7 +18,7 @@ pub returns-in_err-send : goal.returns-in_err-send
 returns-in_err-send c = let x = c.args in refused _ c.from_residual-in_err-send.ensures (token_paid_out x.img.now x.t x.caller x.signers x.sequence x.to (biased x.n) c.in_ok-withdraw_token_checks.ensures refl c.in_err-send.ensures.value (some_number _))
 
 pub settle-requires : goal.settle-requires
-settle-requires c = let x = c.args in let f = token_checks_passed x.img.now _ _ _ (biased x.n) c.in_ok-withdraw_token_checks.ensures refl in (omega (arith, c), sent_keys x.img.now _ _ _ c.requires.0 c.requires.2 (omega (arith, f.above)) c.in_ok-send.ensures.value refl (c.in_ok-send.ensures.img_after refl), f.low, f.high, c.requires.1, omega (arith, f.above), blank_long c.requires.3)
+settle-requires c = let x = c.args in let f = token_checks_passed x.img.now _ _ _ (biased x.n) c.in_ok-withdraw_token_checks.ensures refl in (omega (arith, c), sent_keys x.img.now _ _ _ c.requires.0 c.requires.2 (omega (arith, f.above)) c.in_ok-send.ensures.value refl c.in_ok-send.ensures.img_after, f.low, f.high, c.requires.1, omega (arith, f.above), blank_long c.requires.3)
 
 pub returns : goal.returns
-returns c = let x = c.args in token_withdrawn x.img.now x.t x.caller x.signers x.sequence x.to (biased x.n) c.in_ok-withdraw_token_checks.ensures refl c.in_ok-send.ensures.value x.events.now (rw c.get8.ensures) refl (c.in_ok-send.ensures.img_after refl) c.requires.3 (c.settle.ensures.img_after, c.settle.ensures.events_after) c.done.ensures
+returns c = let x = c.args in token_withdrawn x.img.now x.t x.caller x.signers x.sequence x.to (biased x.n) c.in_ok-withdraw_token_checks.ensures refl c.in_ok-send.ensures.value x.events.now (rw c.get8.ensures) refl c.in_ok-send.ensures.img_after c.requires.3 (c.settle.ensures.img_after, c.settle.ensures.events_after) c.new.ensures
