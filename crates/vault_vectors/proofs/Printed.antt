@@ -35,14 +35,11 @@ preview_prints i j r e d w =
       entered = refl;
     }
 
-none : (b : ℕ) → sub_ℕ b b ≡ pos 0
-none b = let e : b - b ≡ 0 = omega arith in subℕ_ge b b (omega arith) ∙ ap pos e
-
-pub transaction_prints : {s : Step} {n : ℕ} {i j t : List ℕ} {z : ℤ} → JournalIs s n i j → Quiet s → z ≡ sub_ℕ bias bias → t ≡ answer_words n z 0 (digests [] i j) → PrintsStep s t i j
+pub transaction_prints : {s : Step} {n : ℕ} {i j t : List ℕ} {z : ℤ} → JournalIs s n i j → Quiet s → z ≡ pos 0 → t ≡ answer_words n z 0 (digests [] i j) → PrintsStep s t i j
 unfolding step_line bias
 transaction_prints d q y w =
     record {
-      printed = w ∙ rw (y ∙ none bias, q.no_value, q.no_count, q.no_events, d.numbered, d.changed, d.entered, signed_at-value 0 (leb-true 1 bias refl)) refl;
+      printed = w ∙ rw (y, q.no_value, q.no_count, q.no_events, d.numbered, d.changed, d.entered, signed_at-value 0 (leb-true 1 bias refl)) refl;
       changed = d.changed;
       entered = d.entered;
     }

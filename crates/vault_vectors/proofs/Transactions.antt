@@ -75,6 +75,6 @@ pub is_rollback : transaction 3 ≡ Call.rollback
 unfolding transaction
 is_rollback = refl
 
-pub is_undo : (kind : ℕ) → (kind ≡ 1 → ⊥) → (kind ≡ 2 → ⊥) → (kind ≡ 3 → ⊥) → transaction kind ≡ Call.undo
+pub is_undo : transaction 4 ≡ Call.undo
 unfolding transaction
-is_undo kind p q r = rw (ne_eqb kind 1 p, ne_eqb kind 2 q, ne_eqb kind 3 r)
+is_undo = refl

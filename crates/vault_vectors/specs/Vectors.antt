@@ -5,6 +5,10 @@ use Rattle.amount.specs.Biased.{bias}
 use Rattle.events.specs.Splice.{amount_bytes}
 use Rattle.answer_line.specs.Decimal.{answer_words}
 use Rattle.answer_line.specs.Hexadecimal.{hexadecimal}
+use Rattle.amount.specs.Value.{value}
+use Rattle.vault_vectors.specs.declared.StepLine.{StepLine}
+use Rattle.vault_vectors.specs.declared.Transaction.{Transaction}
+use Rattle.vault_vectors.specs.declared.Transaction.TheVariants.{Begin, Commit, Rollback, Undo}
 use Rattle.sha256.specs.Sha256.{sha256}
 use Rattle.journal.specs.Calls.{Call, Step}
 use Rattle.vault_program.specs.Program.{signed_at}
@@ -33,9 +37,21 @@ step_line s =
     answer_words s.answer.number (signed_at (amount_bytes (bias + s.answer.value))) s.answer.count
     (digests s.answer.events s.state.image s.state.journal)
 
+-- what is printed of an answer and three digests: the line without its line feed
+unfoldable pub text_of : StepLine → List ℕ
+text_of l =
+    answer_words l.answer.number (value l.answer.value) l.answer.events
+    (event_bytes_text ++ (hexadecimal l.events ++ (image_text ++ (hexadecimal l.image ++ (journal_text ++ hexadecimal l.journal)))))
+
 -- begin, commit, rollback and undo by their kinds 1 to 4
 unfoldable pub transaction : ℕ → Call
 transaction kind = pick (eqb kind 1) Call.begin (pick (eqb kind 2) Call.commit (pick (eqb kind 3) Call.rollback Call.undo))
+
+abbrev pub kind_of : Transaction → ℕ
+kind_of Begin = 1
+kind_of Commit = 2
+kind_of Rollback = 3
+kind_of Undo = 4
 
 -- text, image and journal are those of the step
 pub record PrintsStep (s : Step) (text image journal : List ℕ) : Type 0 where

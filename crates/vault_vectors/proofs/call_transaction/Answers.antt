@@ -2,14 +2,14 @@
 use Rattle.vault_vectors.proofs.Transactions.{is_begin, is_commit, is_rollback, is_undo}
 use Rattle.vault_vectors.proofs.call_transaction.Goals as goal
 
-pub returns-in-1 : goal.returns-in-1
-returns-in-1 c = rw (c.in-1.is, is_begin) c.begin.ensures
+pub returns-in-Begin : goal.returns-in-Begin
+returns-in-Begin c = rw (c.in-Begin.is, is_begin) c.begin.ensures
 
-pub returns-in-2 : goal.returns-in-2
-returns-in-2 c = rw (c.in-2.is, is_commit) c.commit.ensures
+pub returns-in-Commit : goal.returns-in-Commit
+returns-in-Commit c = rw (c.in-Commit.is, is_commit) c.commit.ensures
 
-pub returns-in-3 : goal.returns-in-3
-returns-in-3 c = rw (c.in-3.is, is_rollback) c.rollback.ensures
+pub returns-in-Rollback : goal.returns-in-Rollback
+returns-in-Rollback c = rw (c.in-Rollback.is, is_rollback) c.rollback.ensures
 
-pub returns-in_default : goal.returns-in_default
-returns-in_default c = let m = c.in_default.in_default-own.rest in rw (is_undo c.args.kind m.0.0.1 m.0.1 m.1) c.undo.ensures
+pub returns-in-Undo : goal.returns-in-Undo
+returns-in-Undo c = rw (c.in-Undo.is, is_undo) c.undo.ensures

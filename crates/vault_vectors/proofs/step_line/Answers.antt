@@ -1,0 +1,9 @@
+-- `step_line` meets its contract: the digests stand where the line has them.
+use Rattle.std.proofs.Common.{refl, append_assoc, append-nil}
+use Rattle.answer_line.specs.Decimal.{answer_words, answer_text, value_text, events_text}
+use Rattle.vault_vectors.specs.Vectors.{text_of, digests, digest_text, event_bytes_text, image_text, journal_text}
+use Rattle.vault_vectors.proofs.step_line.Goals as goal
+
+pub returns : goal.returns
+unfolding text_of digests digest_text answer_words
+returns c = simp (append_assoc, c.digest.ensures, c.digest-2.ensures, c.digest-3.ensures) refl
