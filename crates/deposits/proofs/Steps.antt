@@ -1,7 +1,11 @@
 -- The steps of a deposit, from what the functions called say.
-use mathlib.Core.Path.{◌≡◌, sym, ap, ◌∙◌}
+use Rattle.std.specs.Prelude.{Bool, true, false, not, FitsSigned}
+use Rattle.std.proofs.Common.{Ordering, Less, Equal, Greater}
+use Rattle.std.specs.Int.{w128}
+use Rattle.std.specs.Ordering.{is_lt, is_ge, int_cmp}
+use mathlib.Core.Path.{◌≡◌, refl, sym, ap, ◌∙◌}
 use mathlib.Core.List.{List}
-use Prim.Native.Nat.{ℕ, ◌+◌, ◌-◌, ◌≤◌, ◌<◌, min}
+use Prim.Native.Nat.{ℕ, ◌+◌, ◌-◌, ◌≤◌, ◌<◌}
 use native.Mathlib.Omega.{arith}
 use borrow.Author.Tests.{lt-ltb, le-ltb}
 use Rattle.token.specs.Token.{transfer_number, transfer_of, transferred}
@@ -12,18 +16,26 @@ use Rattle.storage.specs.Kept.{only_record_balance}
 use Rattle.storage.specs.Regions.{same_keys}
 use Rattle.storage.specs.Setters.{set_credit, record_balance}
 use Rattle.image.specs.Layout.{slot, snapshot_at, holding, credit}
-use Rattle.amount.specs.Biased.{bias}
-use Rattle.fields.specs.Rules.{link_at_lem, ends_at}
+use Rattle.amount.specs.declared.Amount.{Amount}
+use Rattle.amount.specs.Biased.{bias, biased}
+use Rattle.amount.specs.Order.{lt_true, lt_false}
+use Rattle.fields.specs.Rules.{ends_at}
 use Rattle.deposits.specs.Deposit.{overflow_number, expected_number, deposit_holding, expected_holding, receive_number, add_credit}
 use Rattle.deposits.specs.Report.{credited_number}
 use Rattle.deposits.specs.TokenDeposit.{receive_token_number}
 
--- what `below` said of two amounts
-pub was_below : (a b : ℕ) {k : ℕ} → k ≡ min 1 (b - a) → (k ≡ 0 → ⊥) → a < b
-was_below a b e z = omega arith
+not_less : (o : Ordering) → is_lt o ≡ not (is_ge o)
+not_less Less = refl
+not_less Equal = refl
+not_less Greater = refl
 
-pub not_below : (a b : ℕ) {k : ℕ} → k ≡ min 1 (b - a) → k ≡ 0 → b ≤ a
-not_below a b e z = omega arith
+-- t is what `>=` said of two amounts
+module _ {t : Bool} (a b : Amount) (f : FitsSigned w128 a.0) (g : FitsSigned w128 b.0) where
+  pub ge_true : t ≡ is_ge (int_cmp a.0 b.0) → t ≡ true → biased b ≤ biased a
+  ge_true e h = lt_false a b f g refl (not_less (int_cmp a.0 b.0) ∙ ap not (sym e ∙ h))
+
+  pub ge_false : t ≡ is_ge (int_cmp a.0 b.0) → t ≡ false → biased a < biased b
+  ge_false e h = lt_true a b f g refl (not_less (int_cmp a.0 b.0) ∙ ap not (sym e ∙ h))
 
 -- a snapshot leaves the tracked keys
 pub snapshot_keys : (l : List ℕ) (t q n : ℕ) {y : List ℕ} → t < 64 → Keys l → y ≡ record_balance l t q n → Keys y
@@ -40,14 +52,6 @@ unfolding add_credit
 credit-kept l t a n h = rw (le-ltb (credit l (slot t) a + n) (bias + bias + bias) h)
 
 module _ (l : List ℕ) (t from n : ℕ) where
-  pub not_moved : {k : ℕ} → k ≡ transfer_number l t from 1 n → (k ≡ 0 → ⊥) → k ≡ receive_number l t from n
-  unfolding receive_number
-  not_moved e z = link_at_lem _ 0 _ (omega arith) e
-
-  pub token-not_moved : {k : ℕ} → k ≡ transfer_number l t from 1 n → (k ≡ 0 → ⊥) → k ≡ receive_token_number l t from n
-  unfolding receive_token_number
-  token-not_moved e z = link_at_lem _ 0 _ (omega arith) e
-
   -- y is the image after the transfer, which gave k
   module _ {y : List ℕ} {k : ℕ} (a : k ≡ transfer_number l t from 1 n) (b : k ≡ 0) (c : y ≡ transferred l t from 1 n) where
     pub moved_is : y ≡ transfer_of l t from 1 n
@@ -71,7 +75,3 @@ module _ (l : List ℕ) (t from n : ℕ) where
       pub token_compared : {i j : ℕ} → i ≡ overflow_number o n → i ≡ 0 → j ≡ credited_number y t from d n → j ≡ receive_token_number l t from n
       unfolding receive_token_number
       token_compared r z q = let s = rw f at r in ends_at _ 2 _ (sym a ∙ b, (sym s ∙ z, tt)) (credited q)
-
-    pub token_overflows : {o j : ℕ} → o ≡ holding l (slot t) 1 → j ≡ overflow_number o n → (j ≡ 0 → ⊥) → j ≡ receive_token_number l t from n
-    unfolding receive_token_number
-    token_overflows f q z = let s = rw f at q in link_at_lem _ 1 _ (sym a ∙ b, (λ x. z (s ∙ x))) s

@@ -86,11 +86,25 @@ fn settle(img: &mut [u8], events: &mut [u8], t: u8, from: u8, sequence: u32, n: 
     let held = token::balance(img, t as usize, 1);
     add_credit(img, t, from, n);
     storage::record_vault_balance(img, t as usize, sequence, held);
-    events::put_event(events, 0, Event::Deposited { from, amount: n, new_balance: held });
+    events::put_event(
+        events,
+        0,
+        Event::Deposited {
+            from,
+            amount: n,
+            new_balance: held,
+        },
+    );
 }
 
 // 8; 1, 3, 22; 4, 5; 10; 7, 6; 11.
-fn deposit_checks(img: &[u8], caller: u8, signers: u64, sequence: u32, n: Amount) -> Result<(), Refusal>
+fn deposit_checks(
+    img: &[u8],
+    caller: u8,
+    signers: u64,
+    sequence: u32,
+    n: Amount,
+) -> Result<(), Refusal>
     requires { Good img.now × (caller < 64) }
     ensures { code result ≡ deposit_checks img.now caller signers sequence (biased n) }
 {
@@ -138,7 +152,7 @@ fn fee_check(gross: Amount, fee: Amount) -> Result<(), Refusal>
     if !gross.is_positive() {
         return Err(Refusal::InvalidAmount);
     }
-    if !(fee < gross) {
+    if fee >= gross {
         return Err(Refusal::InvalidAmount);
     }
     Ok(())
@@ -166,11 +180,17 @@ fn deposit_with_fee_of(
 {
     gross_check(gross, fee)?;
     let net = gross - fee;
-    let a = deposit_of(img, events, caller, signers, sequence, net);
-    if a.number != 0 {
-        return a;
-    }
-    events::put_event(events, 1, Event::TokenDeposited { from: caller, gross_amount: gross, fee_amount: fee, net_amount: net });
+    deposit_of(img, events, caller, signers, sequence, net)?;
+    events::put_event(
+        events,
+        1,
+        Event::TokenDeposited {
+            from: caller,
+            gross_amount: gross,
+            fee_amount: fee,
+            net_amount: net,
+        },
+    );
     Ok(Done::new(2))
 }
 
@@ -210,17 +230,24 @@ fn report(img: &mut [u8], events: &mut [u8], t: u8, from: u8, sequence: u32, n: 
     ensures { Does (report_outcome img.old t from sequence (biased n)) result img.new events.new }
 {
     let expected = token::balance(img, t as usize, 1) + n;
-    if token::transfer(img, t as usize, from as usize, 1, n) != 0 {
-        events::put_event(events, 0, Event::VaultDepositFailed { from, token: t, amount: n });
+    if token::transfer(img, t as usize, from as usize, 1, n).is_err() {
+        events::put_event(
+            events,
+            0,
+            Event::VaultDepositFailed {
+                from,
+                token: t,
+                amount: n,
+            },
+        );
         return Ok(Done::new(1));
     }
     credited_check(img, t, from, expected, n)?;
     settle(img, events, t, from, sequence, n);
-    Answer {
-        number: 0,
+    Ok(Done {
         value: Amount::from(1),
         events: 1,
-    }
+    })
 }
 
 fn deposit_with_failure_report_of(
@@ -253,7 +280,7 @@ fn token_cap_check(img: &[u8], t: u8, held: Amount, n: Amount) -> Result<(), Ref
     requires { (length img.now ≡ image_length) × (t < 64) × (bias ≤ biased n) }
     ensures { code result ≡ token_cap_number img.now t (biased held) (biased n) }
 {
-    if checks::has(fields::get64(img, 80), t as u64) != 1 {
+    if !checks::contains(fields::get64(img, 80), t) {
         return Ok(());
     }
     checks::limit_check(held, n, amount::read_amount(img, 96 + 16 * (t as usize)))
@@ -272,7 +299,14 @@ fn token_funding_check(img: &[u8], t: u8, sequence: u32, n: Amount) -> Result<()
 }
 
 // 8; 1, 3, 22; 4, 5; 10; 23; 11; 7, 6.
-fn token_checks(img: &[u8], caller: u8, signers: u64, sequence: u32, t: u8, n: Amount) -> Result<(), Refusal>
+fn token_checks(
+    img: &[u8],
+    caller: u8,
+    signers: u64,
+    sequence: u32,
+    t: u8,
+    n: Amount,
+) -> Result<(), Refusal>
     requires { (length img.now ≡ image_length) × (caller < 64) × (t < 64) }
     ensures { code result ≡ token_checks img.now caller signers sequence t (biased n) }
 {
@@ -303,7 +337,15 @@ fn settle_token(img: &mut [u8], events: &mut [u8], t: u8, from: u8, sequence: u3
     let held = token::balance(img, t as usize, 1);
     storage::record_vault_balance(img, t as usize, sequence, held);
     add_credit(img, t, from, n);
-    events::put_event(events, 0, Event::Deposited { from, amount: n, new_balance: held });
+    events::put_event(
+        events,
+        0,
+        Event::Deposited {
+            from,
+            amount: n,
+            new_balance: held,
+        },
+    );
 }
 
 fn deposit_token_of(

@@ -1,11 +1,15 @@
 -- `deposits::add_credit` meets its contract.
 use Rattle.deposits.proofs.Steps.{credit-fits, credit-kept}
+use Rattle.amount.specs.Laws.{sum-biased, over_high, valued}
 use native.Mathlib.Omega.{arith}
 use mathlib.Core.Path.{sym}
 use Rattle.deposits.proofs.add_credit.Goals as goal
 
-pub returns-then-passes-ne0 : goal.returns-then-passes-ne0
-returns-then-passes-ne0 c = sym (credit-kept _ _ _ _ (omega arith))
+pub returns-in_default : goal.returns-in_default
+returns-in_default c = let h = over_high _ c.checked_add.ensures c.in_default.is (omega arith) in sym (credit-kept _ _ _ _ (omega arith))
 
 pub returns : goal.returns
-returns c = rw (c.set_token_account_balance.ensures, c.plus.ensures, c.get_token_account_balance-old.ensures) (sym (credit-fits _ _ _ _ (omega arith)))
+returns c =
+    let (r, _) = valued _ c.checked_add.ensures c.in-Some.is in
+    let e = sum-biased _ c.checked_add.ensures c.in-Some.is in
+    rw (c.set_token_account_balance.ensures, e, c.get_token_account_balance-old.ensures) (sym (credit-fits _ _ _ _ (omega arith)))

@@ -1,12 +1,13 @@
 -- `deposits::credited_check` meets its contract.
+use Rattle.refusal.specs.Laws.{passed_on}
 use Rattle.deposits.specs.Report.{credited_number}
-use Rattle.fields.specs.Rules.{link_at_lem, ends_at}
+use Rattle.fields.specs.Rules.{ends_at}
 use native.Mathlib.Omega.{arith}
 use Rattle.deposits.proofs.credited_check.Goals as goal
 
 pub returns-in_err-expected_check : goal.returns-in_err-expected_check
 unfolding credited_number
-returns-in_err-expected_check c = let e = rw c.balance.ensures at c.in_err-expected_check.ensures in link_at_lem _ 0 _ (omega arith) e
+returns-in_err-expected_check c = passed_on _ 0 _ _ tt c.from_residual.ensures (rw c.balance.ensures at c.in_err-expected_check.ensures)
 
 pub returns : goal.returns
 unfolding credited_number

@@ -4,7 +4,7 @@ use mathlib.Core.Path.{refl}
 use Rattle.deposits.specs.Deposit.{deposit_checks}
 use Rattle.checks.specs.Passed.{shared_free, deposit_amount_free}
 use Rattle.storage.specs.Writes.{default_range}
-use Rattle.fields.specs.Rules.{link_at_lem, ends_at}
+use Rattle.fields.specs.Rules.{ends_at}
 use native.Mathlib.Omega.{arith}
 use borrow.Author.Rules.{rules}
 use Rattle.deposits.proofs.deposit_checks.Goals as goal

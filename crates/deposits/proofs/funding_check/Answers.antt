@@ -1,7 +1,7 @@
 -- `deposits::funding_check` meets its contract.
 use Rattle.refusal.specs.Laws.{passed_on}
 use Rattle.deposits.specs.Deposit.{funding_number}
-use Rattle.fields.specs.Rules.{link_at_lem, ends_at}
+use Rattle.fields.specs.Rules.{ends_at}
 use native.Mathlib.Omega.{arith}
 use Rattle.deposits.proofs.funding_check.Goals as goal
 
@@ -11,7 +11,7 @@ returns-in_err-approved_check c = passed_on _ 0 _ _ tt c.from_residual.ensures c
 
 pub returns-in_err-limit_check : goal.returns-in_err-limit_check
 unfolding funding_number
-returns-in_err-limit_check c = let e = rw (c.balance-held.ensures, c.read_amount.ensures) at c.in_err-limit_check.ensures in link_at_lem _ 1 _ (omega arith) e
+returns-in_err-limit_check c = let e = rw (c.balance-held.ensures, c.read_amount.ensures) at c.in_err-limit_check.ensures in passed_on _ 1 _ _ (omega arith) c.from_residual-in_err-limit_check.ensures e
 
 pub returns : goal.returns
 unfolding funding_number

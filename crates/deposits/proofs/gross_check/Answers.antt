@@ -1,7 +1,7 @@
 -- `deposits::gross_check` meets its contract.
 use Rattle.refusal.specs.Laws.{passed_on}
 use Rattle.deposits.specs.Deposit.{gross_number}
-use Rattle.fields.specs.Rules.{link_at_lem, ends_at}
+use Rattle.fields.specs.Rules.{ends_at}
 use native.Mathlib.Omega.{arith}
 use Rattle.deposits.proofs.gross_check.Goals as goal
 

@@ -2,7 +2,7 @@
 use Rattle.refusal.specs.Laws.{passed_on}
 use mathlib.Core.Path.{refl}
 use Rattle.deposits.specs.TokenDeposit.{token_checks}
-use Rattle.fields.specs.Rules.{link_at_lem, ends_at}
+use Rattle.fields.specs.Rules.{ends_at}
 use Rattle.checks.specs.Passed.{deposit_amount_free}
 use native.Mathlib.Omega.{arith}
 use borrow.Author.Rules.{rules}

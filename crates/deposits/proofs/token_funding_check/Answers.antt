@@ -2,7 +2,7 @@
 use Rattle.refusal.specs.Laws.{passed_on}
 use mathlib.Core.Path.{refl}
 use Rattle.deposits.specs.TokenDeposit.{token_funding_number}
-use Rattle.fields.specs.Rules.{link_at_lem, ends_at}
+use Rattle.fields.specs.Rules.{ends_at}
 use Rattle.token.specs.Laws.{absent_free}
 use native.Mathlib.Omega.{arith}
 use borrow.Author.Rules.{rules}
@@ -24,7 +24,7 @@ check_vault_balance-requires c = let f = absent_free _ _ c.in_ok-presence_check.
 
 pub returns-in_err-check_vault_balance : goal.returns-in_err-check_vault_balance
 unfolding token_funding_number
-returns-in_err-check_vault_balance c = let e = rw c.balance-held.ensures at c.in_err-check_vault_balance.ensures in link_at_lem _ 2 _ (omega arith) e
+returns-in_err-check_vault_balance c = let e = rw c.balance-held.ensures at c.in_err-check_vault_balance.ensures in passed_on _ 2 _ _ (omega arith) c.from_residual-in_err-check_vault_balance.ensures e
 
 pub returns : goal.returns
 unfolding token_funding_number
