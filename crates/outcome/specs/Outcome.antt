@@ -1,6 +1,6 @@
 -- What an operation gives by its own rules, and what its function owes.
-use Rattle.std.specs.Prelude.{◌≡◌, List, [], ◌∷◌, ℕ, ◌+◌, ◌<◌, length, get_or, Result, Ok, IfOk, IsErr, IsErrAnd}
-use Rattle.std.proofs.Common.{sym, ap, ◌∙◌, add-zero, arith}
+use Rattle.std.specs.Prelude.{◌≡◌, List, [], ◌∷◌, ℕ, ◌+◌, ◌<◌, length, get_or, Result, Ok, Err, IfOk, IsErr, IsErrAnd}
+use Rattle.std.proofs.Common.{refl, sym, ap, ◌∙◌, add-zero, arith}
 use Rattle.amount.specs.Biased.{bias, biased}
 use Rattle.events.specs.Event.{EventFields, event_buffer}
 use Rattle.events.specs.Buffer.{length-event_buffer}
@@ -20,8 +20,20 @@ pub record Outcome : Type 0 where
   pub events : List EventFields
   pub image : List ℕ
 
+-- an answer: a refusal, or what was done; and its value and its count of events, which are 0 of a refusal
+abbrev pub Answer : Type 0
+Answer = Result Done Refusal
+
+abbrev pub value_of : Answer → ℕ
+value_of (Ok d) = biased d.value
+value_of (Err e) = bias
+
+abbrev pub count_of : Answer → ℕ
+count_of (Ok d) = d.events
+count_of (Err e) = 0
+
 -- What the function of an operation owes: it runs on a copy of the image and on a blank event buffer, and may leave both changed where it refuses.
-pub record Does (o : Outcome) (a : Result Done Refusal) (image events : List ℕ) : Type 0 where
+pub record Does (o : Outcome) (a : Answer) (image events : List ℕ) : Type 0 where
   pub numbered : code a ≡ o.number
   pub valued : IfOk a (λ d. biased d.value ≡ bias + o.value)
   pub counted : IfOk a (λ d. d.events ≡ length o.events)
@@ -33,7 +45,7 @@ abbrev pub Refuses : {T : Type 0} → Result T Refusal → Refusal → Type 0
 Refuses a e = IsErr a × IsErrAnd a (λ y. y ≡ e)
 
 module _ {o : Outcome} {image events : List ℕ} where
-  pub refused : (e : Refusal) {a : Result Done Refusal} → Refuses a e → number_of e ≡ o.number → Does o a image events
+  pub refused : (e : Refusal) {a : Answer} → Refuses a e → number_of e ≡ o.number → Does o a image events
   refused e {a} r f =
       record {
         numbered = code_passed e a r ∙ f;
@@ -53,6 +65,23 @@ module _ {o : Outcome} {image events : List ℕ} where
         changed = λ y. i;
         written = λ y. e;
       }
+
+-- what a refusal is as a caller finds it
+pub silent : (a : Answer) (e : Refusal) → Refuses a e → (code a ≡ number_of e) × (value_of a ≡ bias) × (count_of a ≡ 0)
+silent a e r = (code_passed e a r, (go a r.0).0, (go a r.0).1)
+  where
+    go : (a : Answer) → IsErr a → (value_of a ≡ bias) × (count_of a ≡ 0)
+    go (Ok d) f = cc
+    go (Err e) f = (refl, refl)
+
+-- what was done, where the number is 0
+pub value_is : {n : ℕ} (a : Answer) → code a ≡ 0 → IfOk a (λ d. biased d.value ≡ n) → value_of a ≡ n
+value_is (Ok d) z h = h
+value_is (Err e) z h = absurd (some_number e z)
+
+pub count_is : {n : ℕ} (a : Answer) → code a ≡ 0 → IfOk a (λ d. d.events ≡ n) → count_of a ≡ n
+count_is (Ok d) z h = h
+count_is (Err e) z h = absurd (some_number e z)
 
 -- ---- an operation with no value that announces one event
 pub record Announced (e : EventFields) (d : Done) (events : List ℕ) : Type 0 where
@@ -76,13 +105,13 @@ abbrev pub views : ℕ → ℕ → List ℕ → Outcome
 views n v l = record { number = n; value = v; events = []; image = l }
 
 -- what the function of a view owes
-pub record Views (o : Outcome) (a : Result Done Refusal) : Type 0 where
+pub record Views (o : Outcome) (a : Answer) : Type 0 where
   pub numbered : code a ≡ o.number
   pub valued : IfOk a (λ d. biased d.value ≡ bias + o.value)
   pub counted : IfOk a (λ d. d.events ≡ 0)
 
 module _ {o : Outcome} where
-  pub view_refused : (e : Refusal) {a : Result Done Refusal} → Refuses a e → number_of e ≡ o.number → Views o a
+  pub view_refused : (e : Refusal) {a : Answer} → Refuses a e → number_of e ≡ o.number → Views o a
   view_refused e {a} r f = record { numbered = code_passed e a r ∙ f; valued = IfOk-from_err a _ r.0; counted = IfOk-from_err a _ r.0 }
 
   pub view_accepted : {v : ℕ} {d : Done} → o.number ≡ 0 → (biased d.value ≡ v) × (d.events ≡ 0) → v ≡ bias + o.value → Views o (Ok d)

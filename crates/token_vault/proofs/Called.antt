@@ -10,10 +10,14 @@ use lib.ListN.{length}
 use Rattle.journal.specs.Journal.{contents_of, good_journal, room, journal_after}
 use Rattle.journal.specs.Calls.{Call, operation, begin, commit, rollback, undo, Step, Done}
 use Rattle.journal.proofs.Dispatch.{operated-refused, operated-view, operated-closed, operated_full, operated-entered, step_30, step_31, step_operation, step_begin, step_commit, step_rollback, step_undo}
-use Rattle.outcome.specs.declared.Answer.{Answer}
+use Rattle.std.proofs.Common.{Ok, Err}
+use Rattle.refusal.specs.declared.Refusal.{Refusal}
+use Rattle.refusal.specs.Numbers.{number_of, code}
+use Rattle.refusal.specs.Laws.{some_number}
+use Rattle.outcome.specs.declared.Done.{Done as Made}
 use Rattle.journal.specs.Parts.{Enters}
 use Rattle.journal.specs.Step.{vault, reply, blank, lent, operated, begun, committed, rolled_back, undone, step}
-use Rattle.outcome.specs.Outcome.{Does, Views}
+use Rattle.outcome.specs.Outcome.{Answer, value_of, count_of, Refuses, silent, value_is, count_is, Does, Views}
 use Rattle.events.specs.Event.{event_buffer, buffer_number}
 use Rattle.events.specs.Buffer.{buffer_none}
 use Rattle.record.specs.Form.{is_view, form_number}
@@ -72,7 +76,7 @@ module _ (l r e : List ℕ) (z : call_number r e ≡ 0) where
   op_is = rw z
 
   -- refused by its own rules
-  pub own_refused : {a : Answer} {k : ℕ} {v : List ℕ} → k ≡ (outcome_of l r).number → (k ≡ 0 → ⊥) → (a.number ≡ k) × (biased a.value ≡ bias) × (a.events ≡ 0) → v ≡ event_buffer []
+  pub own_refused : {a : Answer} {k : ℕ} {v : List ℕ} → k ≡ (outcome_of l r).number → (k ≡ 0 → ⊥) → (code a ≡ k) × (value_of a ≡ bias) × (count_of a ≡ 0) → v ≡ event_buffer []
       → Answers (op l r e).answer a v
   own_refused {a} {k} {v} p n d w = rw op_is (go (outcome_of l r).number p)
     where
@@ -81,7 +85,7 @@ module _ (l r e : List ℕ) (z : call_number r e ≡ 0) where
       go (suc m) q = record { numbered = d.0 ∙ q; valued = d.1 ∙ sym (add-zero bias); counted = d.2; written = w ∙ blank_is }
 
   -- done
-  pub own_done : {a : Answer} {v : List ℕ} → (outcome_of l r).number ≡ 0 → a.number ≡ (outcome_of l r).number → biased a.value ≡ bias + (outcome_of l r).value → a.events ≡ length (outcome_of l r).events
+  pub own_done : {a : Answer} {v : List ℕ} → (outcome_of l r).number ≡ 0 → code a ≡ (outcome_of l r).number → value_of a ≡ bias + (outcome_of l r).value → count_of a ≡ length (outcome_of l r).events
       → v ≡ event_buffer (outcome_of l r).events → Answers (op l r e).answer a v
   own_done {a} {v} q n x c w = rw (op_is, q) (record { numbered = n ∙ q; valued = x; counted = c; written = w })
 
@@ -96,23 +100,21 @@ module _ (l r e : List ℕ) (z : call_number r e ≡ 0) where
   own_image q = rw (op_is, q)
 
 -- a view's answer
-pub view-done : (l r e : List ℕ) {a : Answer} {v : List ℕ} → call_number r e ≡ 0 → is_view (operation_of r) ≡ true → Views (outcome_of l r) a → a.number ≡ 0 → v ≡ event_buffer [] → Answers (op l r e).answer a v
-view-done l r e z i d n w =
-    let q = sym d.numbered ∙ n in
+pub looked : (l r e : List ℕ) (a : Answer) {v : List ℕ} → call_number r e ≡ 0 → is_view (operation_of r) ≡ true → Views (outcome_of l r) a → v ≡ event_buffer [] → Answers (op l r e).answer a v
+looked l r e (Err k) z i d w = own_refused l r e z d.numbered (some_number k) (refl, refl, refl) w
+looked l r e (Ok m) z i d w =
     let s = view_silent l r i in
-    own_done l r e z q d.numbered (d.valued q) (d.counted q ∙ sym (ap length s)) (w ∙ sym (ap event_buffer s))
+    own_done l r e z (sym d.numbered) d.numbered d.valued (d.counted ∙ sym (ap length s)) (w ∙ sym (ap event_buffer s))
 
 -- an operation's, on a copy of the image
-pub tried : (l r e : List ℕ) {a : Answer} {m v : List ℕ} → call_number r e ≡ 0 → Does (outcome_of l r) a m v → a.number ≡ 0 → Tries (op l r e) a m v
-tried l r e z d n =
-    let q = sym d.numbered ∙ n in
-    record { answered = own_done l r e z q d.numbered (d.valued q) (d.counted q) (d.written q); changed = λ y. d.changed q ∙ sym (own_image l r e z q) }
+pub tried : (l r e : List ℕ) {d : Made} {m v : List ℕ} → call_number r e ≡ 0 → Does (outcome_of l r) (Ok d) m v → Tries (op l r e) (Ok d) m v
+tried l r e z d =
+    let q = sym d.numbered in
+    record { answered = own_done l r e z q d.numbered d.valued d.counted (d.written q); changed = λ y. d.changed q ∙ sym (own_image l r e z q) }
 
-pub tried_refused : (l r e : List ℕ) {a b : Answer} {k : ℕ} {m v w : List ℕ} → call_number r e ≡ 0 → Does (outcome_of l r) b m w → b.number ≡ k → (k ≡ 0 → ⊥)
-    → (a.number ≡ k) × (biased a.value ≡ bias) × (a.events ≡ 0) → v ≡ event_buffer [] → Tries (op l r e) a m v
-tried_refused l r e z d p n x y =
-    let q = sym p ∙ d.numbered in
-    record { answered = own_refused l r e z q n x y; changed = λ f. absurd (n (q ∙ (sym (own_number l r e z) ∙ f))) }
+pub tried_refused : (l r e : List ℕ) {k : Refusal} {m v w : List ℕ} → call_number r e ≡ 0 → Does (outcome_of l r) (Err k) m w → v ≡ event_buffer [] → Tries (op l r e) (Err k) m v
+tried_refused l r e {k} z d y =
+    record { answered = own_refused l r e z d.numbered (some_number k) (refl, refl, refl) y; changed = λ f. absurd (some_number k (d.numbered ∙ (sym (own_number l r e z) ∙ f))) }
 
 -- ---- entering an accepted operation
 module _ (l m j : List ℕ) where
@@ -167,7 +169,7 @@ module _ (l m j : List ℕ) {k : ℕ} {x y : List ℕ} (h : Keeps l m j k x y) (
 -- ---- answers
 -- an answer that is a number alone
 pub stopped : {d : Rattle.journal.specs.Calls.Answer} {a : Answer} {v : List ℕ} (k : ℕ) (e : List ℕ) → d ≡ record { number = k; value = 0; count = 0; events = e }
-    → (a.number ≡ k) × (biased a.value ≡ bias) × (a.events ≡ 0) → v ≡ e → Answers d a v
+    → (code a ≡ k) × (value_of a ≡ bias) × (count_of a ≡ 0) → v ≡ e → Answers d a v
 stopped k e p d w = rw p (record { numbered = d.0; valued = d.1 ∙ sym (add-zero bias); counted = d.2; written = w })
 
 -- a step whose answer is d and whose state is x and y
@@ -175,7 +177,7 @@ pub replies : {s : Step} {d : Rattle.journal.specs.Calls.Answer} {a : Answer} {x
 replies p d = rw p (record { numbered = d.numbered; valued = d.valued; counted = d.counted; written = d.written; changed = refl; entered = refl })
 
 -- a call that stops with a number, and changes nothing
-pub stops : {s : Step} {a : Answer} {l j v : List ℕ} (k : ℕ) (e : List ℕ) → s ≡ reply k e (vault l j) → (a.number ≡ k) × (biased a.value ≡ bias) × (a.events ≡ 0) → v ≡ e → Replies s a v l j
+pub stops : {s : Step} {a : Answer} {l j v : List ℕ} (k : ℕ) (e : List ℕ) → s ≡ reply k e (vault l j) → (code a ≡ k) × (value_of a ≡ bias) × (count_of a ≡ 0) → v ≡ e → Replies s a v l j
 stops k e p d w = replies p (stopped k e refl d w)
 
 -- ---- the steps of this vault: 30 and 31 first

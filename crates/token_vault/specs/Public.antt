@@ -4,9 +4,10 @@ use Rattle.fields.specs.Rules.{pick}
 use Rattle.image.specs.Layout.{cells}
 use Rattle.journal.specs.Calls.{Step, Done}
 use Rattle.journal.specs.Journal.{contents_of, good_journal, room, journal_after}
-use Rattle.outcome.specs.declared.Answer.{Answer}
+use Rattle.refusal.specs.Numbers.{code}
+use Rattle.outcome.specs.Outcome.{Answer, value_of, count_of}
 use Rattle.events.specs.Splice.{amount_bytes}
-use Rattle.amount.specs.Biased.{bias, biased}
+use Rattle.amount.specs.Biased.{bias}
 
 -- value and count as a caller finds them: sixteen bytes, and a number
 pub record CallIs (s : Step) (number : ℕ) (value : List ℕ) (count : ℕ) (events image journal : List ℕ) : Type 0 where
@@ -37,9 +38,9 @@ pub record JournalIs (s : Step) (number : ℕ) (image journal : List ℕ) : Type
 
 -- the same of an answer that is not written out yet
 pub record Replies (s : Step) (a : Answer) (events image journal : List ℕ) : Type 0 where
-  pub numbered : a.number ≡ s.answer.number
-  pub valued : biased a.value ≡ bias + s.answer.value
-  pub counted : a.events ≡ s.answer.count
+  pub numbered : code a ≡ s.answer.number
+  pub valued : value_of a ≡ bias + s.answer.value
+  pub counted : count_of a ≡ s.answer.count
   pub written : events ≡ s.answer.events
   pub changed : image ≡ s.state.image
   pub entered : journal ≡ s.state.journal
@@ -51,9 +52,9 @@ state_number isImageGood j = pick isImageGood (pick (good_journal cells j) 0 31)
 
 -- an answer that is not written out yet, with the bytes of the event buffer
 pub record Answers (d : Rattle.journal.specs.Calls.Answer) (a : Answer) (events : List ℕ) : Type 0 where
-  pub numbered : a.number ≡ d.number
-  pub valued : biased a.value ≡ bias + d.value
-  pub counted : a.events ≡ d.count
+  pub numbered : code a ≡ d.number
+  pub valued : value_of a ≡ bias + d.value
+  pub counted : count_of a ≡ d.count
   pub written : events ≡ d.events
 
 -- an operation on a copy of the image: where it is done the copy is the image after it

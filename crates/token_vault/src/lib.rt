@@ -5,6 +5,7 @@ ghost use Rattle.std.specs.Prelude.{◌≡◌, true, false, length};
 ghost use Rattle.amount.specs.Biased.{bias, biased};
 ghost use Rattle.events.specs.Splice.{amount_bytes};
 ghost use Rattle.image.specs.Layout.{image_length, cells};
+ghost use Rattle.outcome.specs.Outcome.{value_of, count_of};
 ghost use Rattle.storage.specs.Facts.{Good};
 ghost use Rattle.record.specs.Record.{operation_of};
 ghost use Rattle.record.specs.Form.{is_view};
@@ -18,28 +19,22 @@ ghost use Rattle.token_vault.specs.Cells.{EntersCells};
 ghost use Rattle.token_vault.specs.Preview.{preview_answer, PreviewIs, Previews};
 ghost use Rattle.token_vault.specs.Public.{CallIs, CallAlone, closed_journal, JournalIs, Replies, Answers, Tries, state_number, kept_number, kept_journal, Keeps};
 
-use outcome::Answer;
+use outcome::{Answer, Done};
 use refusal::Refusal;
 
-fn refusal(number: u8) -> Answer
-    ensures { (result.number ≡ number) × (biased result.value ≡ bias) × (result.events ≡ 0) }
-{
-    Answer {
-        number,
-        value: amount::zero(),
-        events: 0,
-    }
-}
-
 // An answer as the caller gets it: value and event count are written out, and the number is returned.
-fn write_answer(a: Answer, value: &mut [u8; 16], event_count: &mut u32) -> u32
-    ensures { (result ≡ a.number) × (value.new ≡ amount_bytes (biased a.value)) × (event_count.new ≡ a.events) }
+fn write_answer(answer: Answer, value: &mut [u8; 16], event_count: &mut u32) -> u32
+    ensures { (result ≡ code answer) × (value.new ≡ amount_bytes (value_of answer)) × (event_count.new ≡ count_of answer) }
 {
+    let (number, done) = match answer {
+        Ok(done) => (0, done),
+        Err(refusal) => (u8::from(refusal), Done::new(0)),
+    };
     let mut bytes = [0u8; 16];
-    amount::write_amount(&mut bytes, 0, a.value);
+    amount::write_amount(&mut bytes, 0, done.value);
     *value = bytes;
-    *event_count = a.events as u32;
-    a.number as u32
+    *event_count = u32::from(done.events);
+    u32::from(number)
 }
 
 // A view on good bytes: the event buffer is blank.
@@ -48,12 +43,7 @@ fn run_view(image: &[u8], rec: &[u8], events: &mut [u8]) -> Answer
     ensures { Answers (op image.now rec.now events.old).answer result events.new }
 {
     events::clear_events(events);
-    let a = operations::look(image, rec);
-    let n = a.number;
-    if n != 0 {
-        return refusal(n);
-    }
-    a
+    operations::look(image, rec)
 }
 
 // Any other operation on good bytes, on a copy of the image.
@@ -62,46 +52,34 @@ fn try_operation(copy: &mut [u8], rec: &[u8], events: &mut [u8]) -> Answer
     ensures { Tries (op copy.old rec.now events.old) result copy.new events.new }
 {
     events::clear_events(events);
-    let a = operations::operate(copy, rec, events);
-    let n = a.number;
-    if n != 0 {
-        events::clear_events(events);
-        return refusal(n);
-    }
-    a
-}
-
-// The number of what the journal answers: 0, or that of its refusal.
-fn number_of(answer: Result<(), Refusal>) -> u8
-    ensures { result ≡ code answer }
-{
-    match answer {
-        Ok(()) => 0,
-        Err(refusal) => u8::from(refusal),
+    match operations::operate(copy, rec, events) {
+        Ok(done) => Ok(done),
+        Err(refusal) => {
+            events::clear_events(events);
+            Err(refusal)
+        }
     }
 }
 
 // 34 where an open journal has no room for the cells in which the copy differs from the image; else they are entered. A closed journal stays.
-fn enter_changes(image: &[u8], copy: &[u8], journal: &mut [u8]) -> u8
+fn enter_changes(image: &[u8], copy: &[u8], journal: &mut [u8]) -> Result<(), Refusal>
     requires { (length image.now ≡ image_length) × (length copy.now ≡ image_length) × (good_journal cells journal.old ≡ true) }
-    ensures { (result ≡ kept_number image.now copy.now journal.old) × (journal.new ≡ kept_journal image.now copy.now journal.old) }
+    ensures { (code result ≡ kept_number image.now copy.now journal.old) × (journal.new ≡ kept_journal image.now copy.now journal.old) }
 {
     if !journal::is_open(journal) {
-        return 0;
+        return Ok(());
     }
-    number_of(journal::enter(image, copy, journal, 2302))
+    journal::enter(image, copy, journal, 2302)
 }
 
 // What an accepted operation left goes to the image, unless 34 refuses it.
-fn keep(image: &mut [u8], journal: &mut [u8], copy: &[u8]) -> u8
+fn keep(image: &mut [u8], journal: &mut [u8], copy: &[u8]) -> Result<(), Refusal>
     requires { (length image.old ≡ image_length) × (length copy.now ≡ image_length) × (good_journal cells journal.old ≡ true) }
-    ensures { Keeps image.old copy.now journal.old result image.new journal.new }
+    ensures { Keeps image.old copy.now journal.old (code result) image.new journal.new }
 {
-    let k = enter_changes(image, copy, journal);
-    if k == 0 {
-        fields::copy_bytes(copy, image);
-    }
-    k
+    enter_changes(image, copy, journal)?;
+    fields::copy_bytes(copy, image);
+    Ok(())
 }
 
 fn run_operation(image: &mut [u8], journal: &mut [u8], rec: &[u8], events: &mut [u8]) -> Answer
@@ -110,40 +88,34 @@ fn run_operation(image: &mut [u8], journal: &mut [u8], rec: &[u8], events: &mut 
 {
     let mut copy = [0u8; 36832];
     fields::copy_bytes(image, &mut copy);
-    let a = try_operation(&mut copy, rec, events);
-    let n = a.number;
-    if n != 0 {
-        return a;
+    let done = try_operation(&mut copy, rec, events)?;
+    match keep(image, journal, &copy) {
+        Ok(()) => Ok(done),
+        Err(refusal) => {
+            events::clear_events(events);
+            Err(refusal)
+        }
     }
-    let k = keep(image, journal, &copy);
-    if k != 0 {
-        events::clear_events(events);
-        return refusal(k);
-    }
-    a
 }
 
 // 30, 31. The test of the image is its caller's, so that the compiler keeps it a function of its own.
-fn state_check(is_image_good: bool, journal: &[u8]) -> u8
-    ensures { result ≡ state_number is_image_good journal.now }
+fn state_check(is_image_good: bool, journal: &[u8]) -> Result<(), Refusal>
+    ensures { code result ≡ state_number is_image_good journal.now }
 {
     if !is_image_good {
-        return 30;
+        return Err(Refusal::InvalidImage);
     }
     if !journal::good_journal(journal, 2302) {
-        return 31;
+        return Err(Refusal::InvalidJournal);
     }
-    0
+    Ok(())
 }
 
 // 32, 33.
-fn call_check(rec: &[u8], events: &[u8]) -> u8
-    ensures { result ≡ call_number rec.now events.now }
+fn call_check(rec: &[u8], events: &[u8]) -> Result<(), Refusal>
+    ensures { code result ≡ call_number rec.now events.now }
 {
-    let k = record::form_check(rec);
-    if k != 0 {
-        return k;
-    }
+    record::form_check(rec)?;
     events::buffer_check(events)
 }
 
@@ -151,14 +123,8 @@ fn answer_call(image: &mut [u8], journal: &mut [u8], rec: &[u8], events: &mut [u
     ensures { Replies (vault_step (vault image.old journal.old) (Call.operation rec.now events.old)) result events.new image.new journal.new }
 {
     let is_image_good = image::good_image(image);
-    let k1 = state_check(is_image_good, journal);
-    if k1 != 0 {
-        return refusal(k1);
-    }
-    let k2 = call_check(rec, events);
-    if k2 != 0 {
-        return refusal(k2);
-    }
+    state_check(is_image_good, journal)?;
+    call_check(rec, events)?;
     if record::is_view(record::operation(rec)) {
         return run_view(image, rec, events);
     }
@@ -208,12 +174,9 @@ fn answer_preview(image: &[u8], rec: &[u8], events: &mut [u8]) -> Answer
     ensures { Answers (preview_answer image.now rec.now events.old) result events.new }
 {
     if !image::good_image(image) {
-        return refusal(30);
+        return Err(Refusal::InvalidImage);
     }
-    let k = call_check(rec, events);
-    if k != 0 {
-        return refusal(k);
-    }
+    call_check(rec, events)?;
     let o = record::operation(rec);
     if record::is_view(o) {
         return run_view(image, rec, events);
@@ -235,48 +198,70 @@ pub fn preview(
     write_answer(a, value, event_count)
 }
 
+// The number of an answer that is a number alone.
+fn number_of(answer: Result<(), Refusal>) -> u32
+    ensures { result ≡ code answer }
+{
+    match answer {
+        Ok(()) => 0,
+        Err(refusal) => u32::from(u8::from(refusal)),
+    }
+}
+
+fn try_begin(image: &mut [u8], journal: &mut [u8]) -> Result<(), Refusal>
+    ensures { JournalIs (vault_step (vault image.old journal.old) Call.begin) (code result) image.new journal.new }
+{
+    let is_image_good = image::good_image(image);
+    state_check(is_image_good, journal)?;
+    journal::begin(journal)
+}
+
 pub fn begin(image: &mut [u8], journal: &mut [u8]) -> u32
     ensures { JournalIs (vault_step (vault image.old journal.old) Call.begin) result image.new journal.new }
 {
+    number_of(try_begin(image, journal))
+}
+
+fn try_commit(image: &mut [u8], journal: &mut [u8]) -> Result<(), Refusal>
+    ensures { JournalIs (vault_step (vault image.old journal.old) Call.commit) (code result) image.new journal.new }
+{
     let is_image_good = image::good_image(image);
-    let k = state_check(is_image_good, journal);
-    if k != 0 {
-        return k as u32;
-    }
-    number_of(journal::begin(journal)) as u32
+    state_check(is_image_good, journal)?;
+    journal::commit(journal)
 }
 
 pub fn commit(image: &mut [u8], journal: &mut [u8]) -> u32
     ensures { JournalIs (vault_step (vault image.old journal.old) Call.commit) result image.new journal.new }
 {
+    number_of(try_commit(image, journal))
+}
+
+fn try_rollback(image: &mut [u8], journal: &mut [u8]) -> Result<(), Refusal>
+    ensures { JournalIs (vault_step (vault image.old journal.old) Call.rollback) (code result) image.new journal.new }
+{
     let is_image_good = image::good_image(image);
-    let k = state_check(is_image_good, journal);
-    if k != 0 {
-        return k as u32;
-    }
-    number_of(journal::commit(journal)) as u32
+    state_check(is_image_good, journal)?;
+    journal::rollback(image, journal, 2302)
 }
 
 pub fn rollback(image: &mut [u8], journal: &mut [u8]) -> u32
     ensures { JournalIs (vault_step (vault image.old journal.old) Call.rollback) result image.new journal.new }
 {
+    number_of(try_rollback(image, journal))
+}
+
+fn try_undo(image: &mut [u8], journal: &mut [u8]) -> Result<(), Refusal>
+    ensures { JournalIs (vault_step (vault image.old journal.old) Call.undo) (code result) image.new journal.new }
+{
     let is_image_good = image::good_image(image);
-    let k = state_check(is_image_good, journal);
-    if k != 0 {
-        return k as u32;
-    }
-    number_of(journal::rollback(image, journal, 2302)) as u32
+    state_check(is_image_good, journal)?;
+    journal::undo(image, journal, 2302)
 }
 
 pub fn undo(image: &mut [u8], journal: &mut [u8]) -> u32
     ensures { JournalIs (vault_step (vault image.old journal.old) Call.undo) result image.new journal.new }
 {
-    let is_image_good = image::good_image(image);
-    let k = state_check(is_image_good, journal);
-    if k != 0 {
-        return k as u32;
-    }
-    number_of(journal::undo(image, journal, 2302)) as u32
+    number_of(try_undo(image, journal))
 }
 
 // Demand 1 of this vault, over the step that the contracts above cite.

@@ -1,9 +1,12 @@
 -- `token_vault::call_check` meets its contract.
 use Rattle.token_vault.proofs.Called.{form_refused, buffer_decides}
+use Rattle.refusal.specs.Laws.{some_number, code_passed}
+use Rattle.outcome.specs.Outcome.{silent}
+use mathlib.Core.Path.{refl, sym, ap, ◌∙◌}
 use Rattle.token_vault.proofs.call_check.Goals as goal
 
-pub returns-then-k-ne0 : goal.returns-then-k-ne0
-returns-then-k-ne0 c = form_refused _ _ c.form_check-k.ensures c.if-k-ne0.true
+pub returns-in_err-form_check : goal.returns-in_err-form_check
+returns-in_err-form_check c = code_passed _ _ c.from_residual.ensures ∙ form_refused _ _ c.in_err-form_check.ensures (some_number _)
 
 pub returns : goal.returns
-returns c = buffer_decides _ _ c.form_check-k.ensures c.if-k-ne0.false c.buffer_check.ensures
+returns c = buffer_decides _ _ c.in_ok-form_check.ensures refl c.buffer_check.ensures

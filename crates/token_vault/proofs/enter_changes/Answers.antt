@@ -11,4 +11,4 @@ pub enter-requires : goal.enter-requires
 enter-requires c = record { long_old = omega arith; long_new = omega arith; numbered = omega arith; good = c.requires.2; opened = sym c.is_open.ensures ∙ c.if-not-is_open.false }
 
 pub returns : goal.returns
-returns c = let x = c.args in rw c.number_of.ensures (entered_open x.image.now x.copy.now x.journal.now (sym c.is_open.ensures ∙ c.if-not-is_open.false) c.enter.ensures)
+returns c = let x = c.args in (entered_open x.image.now x.copy.now x.journal.now (sym c.is_open.ensures ∙ c.if-not-is_open.false) c.enter.ensures)

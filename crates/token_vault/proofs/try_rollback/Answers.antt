@@ -1,0 +1,17 @@
+-- `token_vault::try_rollback` meets its contract.
+use Rattle.storage.specs.Facts.{facts}
+use Rattle.journal.specs.Calls.{Call}
+use Rattle.token_vault.proofs.Called.{good_state, journal_refused, journal_step, vault_rollback}
+use Rattle.refusal.specs.Laws.{some_number, code_passed}
+use Rattle.outcome.specs.Outcome.{silent}
+use mathlib.Core.Path.{refl, sym, ap, ◌∙◌}
+use Rattle.token_vault.proofs.try_rollback.Goals as goal
+
+pub returns-in_err-state_check : goal.returns-in_err-state_check
+returns-in_err-state_check c = rw (code_passed _ _ c.from_residual.ensures) (journal_refused _ _ c.good_image-is_image_good.ensures c.in_err-state_check.ensures Call.rollback (some_number _))
+
+pub rollback-requires : goal.rollback-requires
+rollback-requires c = let (g, h) = good_state _ _ c.good_image-is_image_good.ensures c.in_ok-state_check.ensures refl in record { long = (facts _ g).long; good = h }
+
+pub returns : goal.returns
+returns c = let x = c.args in let (g, h) = good_state _ _ c.good_image-is_image_good.ensures c.in_ok-state_check.ensures refl in (journal_step (vault_rollback x.image.now x.journal.now g h) c.rollback.ensures)
