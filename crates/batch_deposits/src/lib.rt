@@ -1,7 +1,7 @@
 // Operation 4 `batch_deposit` (lib.rs).
 #![tactic(auto)]
 
-ghost use Rattle.std.specs.Prelude.{OnOk, ◌≡◌, [], ℕ, ◌+◌, ◌<◌, ◌≤◌, length};
+ghost use Rattle.std.specs.Prelude.{IfOk, OnOk, ◌≡◌, [], ℕ, ◌+◌, ◌<◌, ◌≤◌, length};
 ghost use Rattle.refusal.specs.Numbers.{code};
 ghost use Rattle.amount.specs.Biased.{bias, biased};
 ghost use Rattle.image.specs.Layout.{image_length, slot, holding};
@@ -62,7 +62,13 @@ fn add_items(rec: &[u8], signers: u64, count: usize) -> Result<Amount, Refusal>
 }
 
 // One item: its transfer (23), then its event.
-fn transfer_item(img: &mut [u8], events: &mut [u8], rec: &[u8], t: u8, i: usize) -> Result<(), Refusal>
+fn transfer_item(
+    img: &mut [u8],
+    events: &mut [u8],
+    rec: &[u8],
+    t: u8,
+    i: usize,
+) -> Result<(), Refusal>
     requires good { Good img.old × (length events.old ≡ 896) × (length rec.now ≡ 448) × (i < 16) × (48 ≤ t) × (t < 64) }
     requires i_bound { (item_address rec.now i < 64) × (bias ≤ item_amount rec.now i) }
     ensures value { code result ≡ transfer_number img.old t (item_address rec.now i) 1 (item_amount rec.now i) }
@@ -72,12 +78,26 @@ fn transfer_item(img: &mut [u8], events: &mut [u8], rec: &[u8], t: u8, i: usize)
     let n = record::item_amount(rec, i);
     token::transfer(img, t as usize, from as usize, 1, n)?;
     let held = token::balance(img, t as usize, 1);
-    events::put_event(events, i, Event::Deposited { from, amount: n, new_balance: held });
+    events::put_event(
+        events,
+        i,
+        Event::Deposited {
+            from,
+            amount: n,
+            new_balance: held,
+        },
+    );
     Ok(())
 }
 
 // All transfers, item by item.
-fn transfer_items(img: &mut [u8], events: &mut [u8], rec: &[u8], t: u8, count: usize) -> Result<(), Refusal>
+fn transfer_items(
+    img: &mut [u8],
+    events: &mut [u8],
+    rec: &[u8],
+    t: u8,
+    count: usize,
+) -> Result<(), Refusal>
     requires good { Good img.old × (events.old ≡ event_buffer []) × (length rec.now ≡ 448) × (count ≤ 16) × (48 ≤ t) × (t < 64) }
     requires by_index { (j : ℕ) → j < count → (item_address rec.now j < 64) × (bias < item_amount rec.now j) }
     ensures value { code result ≡ transfers_number count rec.now t 0 img.old }

@@ -1,24 +1,41 @@
 -- `batch_deposits::add_items` meets its contract.
 use Rattle.batch_deposits.proofs.Loops.{sum_begins, sum_stops, sum_fits, sum_goes_on, sum_ends}
+use Rattle.refusal.specs.Laws.{code_passed, some_number}
+use Rattle.amount.specs.Order.{biased_zero}
 use Rattle.amount.specs.Biased.{biased}
 use native.Mathlib.Omega.{arith}
+use mathlib.Core.Path.{refl, ◌∙◌}
 use borrow.Author.Rules.{rules}
 use Rattle.batch_deposits.proofs.add_items.Goals as goal
 
 pub loop-i-init : goal.loop-i-init
-loop-i-init c = (omega arith, sum_begins _ _ _ _ c.zero-sum.ensures)
+loop-i-init c = sum_begins _ _ _ _ biased_zero
 
-pub item_check-k-requires : goal.item_check-k-requires
-item_check-k-requires c = (search rules, omega arith, c.requires.by_index c.loop-i.i (omega arith))
+pub item_check-requires : goal.item_check-requires
+item_check-requires c = (search rules, omega arith, c.requires.by_index c.loop-i.i (omega arith))
 
-pub returns-then-k-ne0 : goal.returns-then-k-ne0
-returns-then-k-ne0 c = let x = c.args in let l = c.loop-i in record { number_value = sum_stops x.rec.now x.signers x.count l.i (biased l.sum) l.invariant.1 (omega arith) c.item_check-k.ensures c.if-k-ne0.true; sum_value = λ z. absurd (c.if-k-ne0.true z) }
+pub returns-in_err-item_check-clause-number : goal.returns-in_err-item_check-clause-number
+returns-in_err-item_check-clause-number c =
+    let x = c.args in
+    let l = c.loop-i in
+    code_passed _ _ c.from_residual.ensures ∙ sum_stops x.rec.now x.signers x.count l.i (biased l.sum) l.invariant (omega arith) c.in_err-item_check.ensures (some_number _)
 
-pub plus-sum-requires : goal.plus-sum-requires
-plus-sum-requires c = let x = c.args in let l = c.loop-i in let f = sum_fits x.rec.now x.signers x.count l.i (biased l.sum) l.invariant.1 (omega arith) c.item_check-k.ensures (omega arith) c.if-k-ne0.false in rw c.item_amount.ensures f
+pub add-sum-requires : goal.add-sum-requires
+add-sum-requires c =
+    let x = c.args in
+    let l = c.loop-i in
+    let f = sum_fits x.rec.now x.signers x.count l.i (biased l.sum) l.invariant (omega arith) c.in_ok-item_check.ensures (omega arith) refl in
+    rw c.item_amount.ensures f
 
 pub loop-i-preserved : goal.loop-i-preserved
-loop-i-preserved c = let x = c.args in let l = c.loop-i in (omega arith, sum_goes_on x.rec.now x.signers x.count l.i (biased l.sum) l.invariant.1 (omega arith) c.item_check-k.ensures c.if-k-ne0.false (rw c.item_amount.ensures at c.plus-sum.ensures))
+loop-i-preserved c =
+    let x = c.args in
+    let l = c.loop-i in
+    sum_goes_on x.rec.now x.signers x.count l.i (biased l.sum) l.invariant (omega arith) c.in_ok-item_check.ensures refl (rw c.item_amount.ensures at c.add-sum.ensures)
 
 pub returns : goal.returns
-returns c = let x = c.args in let l = c.loop-i in let e = sum_ends x.rec.now x.signers x.count l.i (biased l.sum) l.invariant.1 (omega arith) in record { number_value = e.0; sum_value = λ z. e.1 }
+returns c =
+    let x = c.args in
+    let l = c.loop-i in
+    let e = sum_ends x.rec.now x.signers x.count l.i (biased l.sum) l.invariant (omega arith) in
+    record { number = e.0; total = e.1 }

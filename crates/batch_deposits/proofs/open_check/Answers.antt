@@ -1,7 +1,7 @@
 -- `batch_deposits::open_check` meets its contract.
 use Rattle.refusal.specs.Laws.{passed_on}
 use Rattle.batch_deposits.specs.Batch.{open_number}
-use Rattle.fields.specs.Rules.{link_at_lem, ends_at}
+use Rattle.fields.specs.Rules.{ends_at}
 use native.Mathlib.Omega.{arith}
 use Rattle.batch_deposits.proofs.open_check.Goals as goal
 

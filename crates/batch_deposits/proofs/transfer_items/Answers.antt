@@ -1,21 +1,37 @@
 -- `batch_deposits::transfer_items` meets its contract.
-use mathlib.Core.Path.{refl}
+use mathlib.Core.Path.{refl, ◌∙◌}
 use Rattle.batch_deposits.proofs.Loops.{begin, written_long, stops, goes_on, ends}
+use Rattle.refusal.specs.Laws.{code_passed, some_number}
 use native.Mathlib.Omega.{arith}
 use borrow.Author.Rules.{rules}
 use Rattle.batch_deposits.proofs.transfer_items.Goals as goal
 
 pub loop-i-init : goal.loop-i-init
-loop-i-init c = let w = begin c.args.rec.now c.args.t c.args.count c.args.img.now c.requires.good.0 c.requires.good.1 in (omega arith, refl, w)
+loop-i-init c = (refl, begin c.args.rec.now c.args.t c.args.count c.args.img.now c.requires.good.0 c.requires.good.1)
 
-pub transfer_item-k-requires : goal.transfer_item-k-requires
-transfer_item-k-requires c = let l = c.loop-i in let (a, b) = c.requires.by_index l.i (omega arith) in record { good = (l.invariant.2.good, written_long l.invariant.2.written (omega arith), c.requires.good.2, omega arith, c.requires.good.4, c.requires.good.5); i_bound = (a, omega arith) }
+pub transfer_item-requires : goal.transfer_item-requires
+transfer_item-requires c =
+    let l = c.loop-i in
+    let (a, b) = c.requires.by_index l.i (omega arith) in
+    record { good = (l.invariant.1.good, written_long l.invariant.1.written (omega arith), c.requires.good.2, omega arith, c.requires.good.4, c.requires.good.5); i_bound = (a, omega arith) }
 
-pub returns-then-k-ne0 : goal.returns-then-k-ne0
-returns-then-k-ne0 c = let x = c.args in let l = c.loop-i in record { value = stops x.rec.now x.t x.count x.img.now l.i _ _ l.invariant.2 (omega arith) c.transfer_item-k.ensures.value c.if-k-ne0.true; img_after = λ z. absurd (c.if-k-ne0.true z) }
+pub returns-in_err-transfer_item-clause-value : goal.returns-in_err-transfer_item-clause-value
+returns-in_err-transfer_item-clause-value c =
+    let x = c.args in
+    let l = c.loop-i in
+    code_passed _ _ c.from_residual.ensures ∙ stops x.rec.now x.t x.count x.img.now l.i _ _ l.invariant.1 (omega arith) c.in_err-transfer_item.ensures.value (some_number _)
 
 pub loop-i-preserved : goal.loop-i-preserved
-loop-i-preserved c = let x = c.args in let l = c.loop-i in let (a, b) = c.requires.by_index l.i (omega arith) in let w = goes_on x.rec.now x.t x.count x.img.now l.i _ _ l.invariant.2 (omega arith) c.transfer_item-k.ensures.value (omega arith) a b c.if-k-ne0.false (c.transfer_item-k.ensures.img_after c.if-k-ne0.false).0 (c.transfer_item-k.ensures.img_after c.if-k-ne0.false).1 in (omega arith, search rules, w)
+loop-i-preserved c =
+    let x = c.args in
+    let l = c.loop-i in
+    let (a, b) = c.requires.by_index l.i (omega arith) in
+    let y = c.in_ok-transfer_item.ensures in
+    (search rules, goes_on x.rec.now x.t x.count x.img.now l.i _ _ l.invariant.1 (omega arith) y.value (omega arith) a b refl y.img_after.0 y.img_after.1)
 
 pub returns : goal.returns
-returns c = let x = c.args in let l = c.loop-i in let e = ends x.rec.now x.t x.count x.img.now l.i _ _ l.invariant.2 (omega arith) in record { value = e.0; img_after = λ z. (e.1, e.2) }
+returns c =
+    let x = c.args in
+    let l = c.loop-i in
+    let e = ends x.rec.now x.t x.count x.img.now l.i _ _ l.invariant.1 (omega arith) in
+    record { value = e.0; img_after = (e.1, e.2) }

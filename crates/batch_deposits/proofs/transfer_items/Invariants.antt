@@ -2,11 +2,7 @@
 use mathlib.Core.Path.{◌≡◌}
 use Rattle.batch_deposits.proofs.Loops.{Underway}
 use lib.ListN.{length}
-use Prim.Native.Nat.{◌≤◌, ◌-◌}
 use Rattle.batch_deposits.proofs.transfer_items.Given as goal
 
 abbrev pub invariant-loop-i : goal.invariant-loop-i
-invariant-loop-i l = (l.i ≤ l.count) × (length l.events ≡ length l.initial.events) × Underway l.rec l.t l.count l.initial.img l.i l.img l.events
-
-abbrev pub decreases-loop-i : goal.decreases-loop-i
-decreases-loop-i l = l.count - l.i
+invariant-loop-i l = (length l.events ≡ length l.initial.events) × Underway l.rec l.t l.count l.initial.img l.i l.img l.events
