@@ -1,23 +1,37 @@
 -- The whole answer, from what the checks and the two holdings say: one lemma for each way out.
-use mathlib.Core.Path.{◌≡◌, refl, sym, ◌∙◌}
+use mathlib.Core.Path.{◌≡◌, refl, sym, ap, ◌∙◌}
 use mathlib.Core.Bool.{true, false}
 use mathlib.Core.List.{List}
 use Prim.Native.Nat.{ℕ}
 use native.Mathlib.Omega.{arith}
 use lib.ListN.{length}
+use Rattle.std.proofs.Common.{Result, Ok, Err, IsErr, IsErrAnd}
+use Rattle.std.proofs.lemmas.Result.{MatchResult-from_err}
+use Rattle.std.specs.Result.{result_unwrap_or}
+use Rattle.refusal.specs.declared.Refusal.{Refusal}
+use Rattle.refusal.specs.Numbers.{number_of, code}
+use Rattle.refusal.specs.Laws.{some_number, code_passed}
+use Rattle.amount.specs.Biased.{bias, biased, put_amount}
+use Rattle.events.specs.Splice.{amount_bytes, put_amount_whole}
+use Rattle.amount.specs.declared.Amount.{Amount}
 use Rattle.image.specs.Layout.{slot, holding}
 use Rattle.image.specs.Good.{good_image}
 use Rattle.fields.specs.Rules.{link_at_lem}
-use Rattle.toll_bounds.specs.declared.Tally.{Tally}
 use Rattle.toll_bounds.specs.declared.Holdings.{Holdings}
-use Rattle.toll_bounds.specs.Bounds.{amount_count, amount_in, holding_at_toll, image_number, request_number, amounts_number, bounds_checks, bounds_number, refused, toll_bounds}
+use Rattle.toll_bounds.specs.Bounds.{Bounds, BoundsAre, amount_count, amount_in, holding_at_toll, image_number, request_number, amounts_number, pass_number, bounds_checks, bounds_number, toll_bounds}
 use Rattle.toll_bounds.specs.Laws.{after_falls, pass_none, bounds_given, bounds_refused, allowed}
 use Rattle.toll_bounds.specs.Parts.{TallyIs, HoldingsAre}
 
 module _ (l : List ℕ) (t : ℕ) (a : List ℕ) (least greatest : ℕ) where
   -- ---- refused
-  pub refused_is : {k : ℕ} {r : Holdings} → k ≡ bounds_number l t a least greatest → (k ≡ 0 → ⊥) → HoldingsAre (refused k) r → HoldingsAre (toll_bounds l t a least greatest) r
-  refused_is {k} {r} e n h = rw (bounds_refused l t a least greatest (λ z. n (e ∙ z))) (rw e at h)
+  pub refused_is : (x : Refusal) (r : Result Holdings Refusal) → IsErr r × IsErrAnd r (λ y. y ≡ x) → number_of x ≡ bounds_number l t a least greatest → HoldingsAre (toll_bounds l t a least greatest) r
+  refused_is x r p e =
+      rw (bounds_refused l t a least greatest (λ z. some_number x (e ∙ z)))
+      (record {
+        numbered = code_passed x r p ∙ e;
+        least = MatchResult-from_err r _ _ p.0 (λ _. refl);
+        greatest = MatchResult-from_err r _ _ p.0 (λ _. refl);
+      })
 
   pub stop_30 : good_image l ≡ false → 30 ≡ bounds_number l t a least greatest
   unfolding bounds_number image_number
@@ -32,39 +46,59 @@ module _ (l : List ℕ) (t : ℕ) (a : List ℕ) (least greatest : ℕ) where
     unfolding bounds_number
     stop_46 e n = link_at_lem (bounds_checks l t a least greatest) 1 _ (passed_30, λ z. n (e ∙ z)) e
 
-    module _ {j : ℕ} (p : j ≡ request_number l t (length a) least greatest) (y : j ≡ 0) where
+    module _ (p : 0 ≡ request_number l t (length a) least greatest) where
       pub stop_4 : {k : ℕ} → k ≡ amounts_number a (amount_count a) → (k ≡ 0 → ⊥) → k ≡ bounds_number l t a least greatest
       unfolding bounds_number
-      stop_4 e n = link_at_lem (bounds_checks l t a least greatest) 2 _ (passed_30, (sym p ∙ y, λ z. n (e ∙ z))) e
+      stop_4 e n = link_at_lem (bounds_checks l t a least greatest) 2 _ (passed_30, (sym p, λ z. n (e ∙ z))) e
 
-      module _ {k h : ℕ} (q : k ≡ amounts_number a (amount_count a)) (z : k ≡ 0) (b : h ≡ holding l (slot t) 1)
-          {high : Tally} (u : TallyIs least h (amount_in a) (amount_count a) high) where
-        at_least_toll : TallyIs least (holding l (slot t) 1) (amount_in a) (amount_count a) high
-        at_least_toll = rw b at u
+      -- h is the holding read
+      module _ {h : ℕ} (q : 0 ≡ amounts_number a (amount_count a)) (b : h ≡ holding l (slot t) 1) where
+        at_toll : (toll : ℕ) {r : Result Amount Refusal} → TallyIs toll h (amount_in a) (amount_count a) r → TallyIs toll (holding l (slot t) 1) (amount_in a) (amount_count a) r
+        at_toll toll u = rw b at u
 
-        pub stop_7 : (high.number ≡ 0 → ⊥) → high.number ≡ bounds_number l t a least greatest
+        pub stop_7 : {high : Result Amount Refusal} → TallyIs least h (amount_in a) (amount_count a) high → (code high ≡ 0 → ⊥) → code high ≡ bounds_number l t a least greatest
         unfolding bounds_number
-        stop_7 n =
-            let e = at_least_toll.numbered in
-            link_at_lem (bounds_checks l t a least greatest) 3 _ (passed_30, (sym p ∙ y, (sym q ∙ z, λ w. n (e ∙ w)))) e
+        stop_7 u n =
+            let e = (at_toll least u).numbered in
+            link_at_lem (bounds_checks l t a least greatest) 3 _ (passed_30, (sym p, (sym q, λ w. n (e ∙ w)))) e
 
         -- ---- not refused: at the greatest toll the holding does not pass either
-        passed_all : high.number ≡ 0 → bounds_number l t a least greatest ≡ 0
-        unfolding bounds_number
-        passed_all n = sym (link_at_lem (bounds_checks l t a least greatest) 4 0 (passed_30, (sym p ∙ y, (sym q ∙ z, (sym at_least_toll.numbered ∙ n, tt)))) refl)
+        module _ {high : Amount} (u : TallyIs least h (amount_in a) (amount_count a) (Ok high)) where
+          passed_all : bounds_number l t a least greatest ≡ 0
+          unfolding bounds_number
+          passed_all = sym (link_at_lem (bounds_checks l t a least greatest) 4 0 (passed_30, (sym p, (sym q, (sym (at_toll least u).numbered, tt)))) refl)
 
-        pub given_is : high.number ≡ 0 → {low : Tally} → TallyIs greatest h (amount_in a) (amount_count a) low
-            → HoldingsAre (toll_bounds l t a least greatest) (record { number = 0; least = low.sum; greatest = high.sum })
-        given_is n {low} v =
-            let e = passed_all n in
-            let w = allowed l t a least greatest e in
-            let at-greatest-toll : TallyIs greatest (holding l (slot t) 1) (amount_in a) (amount_count a) low = rw b at v in
-            let less = after_falls least greatest (holding l (slot t) 1) (amount_in a) (amount_count a) w.in_order in
-            let fits = w.fits in
-            let none = pass_none (holding_at_toll l t a greatest) (omega arith) in
-            rw (bounds_given l t a least greatest e)
-            (record {
-              numbered = refl;
-              least = at-greatest-toll.summed (at-greatest-toll.numbered ∙ sym none);
-              greatest = at_least_toll.summed n;
-            })
+          none : 0 ≡ pass_number (holding_at_toll l t a greatest)
+          none =
+              let w = allowed l t a least greatest passed_all in
+              let less = after_falls least greatest (holding l (slot t) 1) (amount_in a) (amount_count a) w.in_order in
+              let fits = w.fits in
+              pass_none (holding_at_toll l t a greatest) (omega arith)
+
+          pub low_given : {x : Refusal} → TallyIs greatest h (amount_in a) (amount_count a) (Err x) → ⊥
+          low_given {x} v = some_number x ((at_toll greatest v).numbered ∙ sym none)
+
+          pub given_is : {low : Amount} → TallyIs greatest h (amount_in a) (amount_count a) (Ok low) → HoldingsAre (toll_bounds l t a least greatest) (Ok (record { least = low; greatest = high }))
+          given_is v =
+              rw (bounds_given l t a least greatest passed_all)
+              (record {
+                numbered = refl;
+                least = (at_toll greatest v).summed;
+                greatest = (at_toll least u).summed;
+              })
+
+-- ---- the answer written out: d are the holdings that stand for a refusal, h those that are written
+module _ (b : Bounds) (d : Holdings) (z : biased d.least ≡ bias) (w : biased d.greatest ≡ bias) where
+  holdings_are : (r : Result Holdings Refusal) {h : Holdings} → HoldingsAre b r → h ≡ result_unwrap_or r d → (biased h.least ≡ b.least) × (biased h.greatest ≡ b.greatest)
+  holdings_are (Ok x) e f = rw f (e.least, e.greatest)
+  holdings_are (Err x) e f = rw f (z ∙ e.least, w ∙ e.greatest)
+
+  pub written_out : (r : Result Holdings Refusal) {h : Holdings} {n : ℕ} (k l : List ℕ) {x y : List ℕ} → HoldingsAre b r → h ≡ result_unwrap_or r d → (length k ≡ 16) × (length l ≡ 16)
+      → n ≡ b.number → x ≡ put_amount k 0 (biased h.least) → y ≡ put_amount l 0 (biased h.greatest) → BoundsAre b n x y
+  written_out r k l e f s m p q =
+      let (low, high) = holdings_are r e f in
+      record {
+        numbered = m;
+        least_written = p ∙ (put_amount_whole _ _ s.0 ∙ ap amount_bytes low);
+        greatest_written = q ∙ (put_amount_whole _ _ s.1 ∙ ap amount_bytes high);
+      }

@@ -6,7 +6,7 @@ ghost use Rattle.refusal.specs.Numbers.{code};
 ghost use Rattle.amount.specs.Biased.{bias, biased, amount_at};
 ghost use Rattle.image.specs.Layout.{image_length};
 ghost use Rattle.token.specs.Token.{arrives};
-ghost use Rattle.toll_bounds.specs.Bounds.{amount_in, list_number, tolls_number, token_number, request_number, amounts_number, refused, toll_bounds, BoundsAre};
+ghost use Rattle.toll_bounds.specs.Bounds.{amount_in, list_number, tolls_number, token_number, request_number, amounts_number, toll_bounds, BoundsAre};
 ghost use Rattle.toll_bounds.specs.Parts.{TallyIs, HoldingsAre};
 ghost use Rattle.toll_bounds.specs.Theorems.{TollBounds};
 
@@ -60,7 +60,13 @@ fn token_check(img: &[u8], t: u8) -> Result<(), Refusal>
 }
 
 // 46.
-fn request_check(img: &[u8], t: u8, bytes: usize, least: Amount, greatest: Amount) -> Result<(), Refusal>
+fn request_check(
+    img: &[u8],
+    t: u8,
+    bytes: usize,
+    least: Amount,
+    greatest: Amount,
+) -> Result<(), Refusal>
     requires { length img.now ≡ image_length }
     ensures { code result ≡ request_number img.now t bytes (biased least) (biased greatest) }
 {
@@ -168,13 +174,14 @@ pub fn toll_bounds(
 {
     let least = amount::read_amount(least_toll, 0);
     let greatest = amount::read_amount(greatest_toll, 0);
-    let (number, holdings) = match bounds_of(image, token, amounts, least, greatest) {
-        Ok(holdings) => (0, holdings),
-        Err(refusal) => (u8::from(refusal), NO_HOLDINGS),
-    };
+    let answer = bounds_of(image, token, amounts, least, greatest);
+    let holdings = answer.unwrap_or(NO_HOLDINGS);
     amount::write_amount(least_holding, 0, holdings.least);
     amount::write_amount(greatest_holding, 0, holdings.greatest);
-    u32::from(number)
+    match answer {
+        Ok(_) => 0,
+        Err(refusal) => u32::from(u8::from(refusal)),
+    }
 }
 
 // What holds of toll bounds, over the definition that the contract above cites.

@@ -1,12 +1,9 @@
 -- `toll_bounds::holding_after` meets its contract.
 use mathlib.Core.Path.{◌≡◌}
-use Prim.Native.Nat.{◌+◌, ◌-◌, ◌≤◌, ◌<◌}
+use Prim.Native.Nat.{◌+◌, ◌<◌}
 use Rattle.amount.specs.Biased.{bias, biased}
 use Rattle.toll_bounds.specs.Bounds.{amount_in, holding_after}
 use Rattle.toll_bounds.proofs.holding_after.Given as goal
 
 abbrev pub invariant-loop-i : goal.invariant-loop-i
-invariant-loop-i l = (l.i ≤ l.count) × (biased l.sum < bias + bias) × (biased l.sum ≡ holding_after (biased l.toll) (biased l.initial.sum) (amount_in l.amounts) l.i)
-
-abbrev pub decreases-loop-i : goal.decreases-loop-i
-decreases-loop-i l = l.count - l.i
+invariant-loop-i l = (biased l.sum < bias + bias) × (biased l.sum ≡ holding_after (biased l.toll) (biased l.initial.sum) (amount_in l.amounts) l.i)

@@ -1,7 +1,7 @@
 -- `toll_bounds::request_check` meets its contract.
 use Rattle.refusal.specs.Laws.{passed_on}
 use native.Mathlib.Omega.{arith}
-use Rattle.fields.specs.Rules.{link_at_lem, ends_at}
+use Rattle.fields.specs.Rules.{ends_at}
 use Rattle.toll_bounds.specs.Bounds.{request_number}
 use Rattle.toll_bounds.proofs.request_check.Goals as goal
 
