@@ -30,10 +30,15 @@ module _ (s : State) (h r : List ℕ) {text image journal : List ℕ} where
     unfolding request_of events_of
     preview_called p z = rw (z, ← g, ← f) p
 
-  pub transaction_called : PrintsStep (request_step s (call (transaction (get_or h 0 0)))) text image journal → (get_or h 0 0 ≡ 0 → ⊥) → (get_or h 0 0 ≡ 5 → ⊥)
-      → PrintsStep (request_step s (request_of h r)) text image journal
+  pub transaction_called : (kind : ℕ) → transaction kind ≡ transaction (get_or h 0 0) → (get_or h 0 0 ≡ 0 → ⊥) → (get_or h 0 0 ≡ 5 → ⊥)
+      → PrintsStep (request_step s (call (transaction kind))) text image journal → PrintsStep (request_step s (request_of h r)) text image journal
   unfolding request_of
-  transaction_called p y z = rw (ne_eqb (get_or h 0 0) 0 y, ne_eqb (get_or h 0 0) 5 z) p
+  transaction_called kind e y z p = rw (ne_eqb (get_or h 0 0) 0 y, ne_eqb (get_or h 0 0) 5 z, ← e) p
+
+-- every kind but 0 to 3 and 5 is undo
+pub is_undo : (kind : ℕ) → (kind ≡ 1 → ⊥) → (kind ≡ 2 → ⊥) → (kind ≡ 3 → ⊥) → transaction 4 ≡ transaction kind
+unfolding transaction
+is_undo kind p q r = rw (ne_eqb kind 1 p, ne_eqb kind 2 q, ne_eqb kind 3 r) refl
 
 module _ (head_read record_read : ℕ) (h b : List ℕ) {fault : ℕ} (e : fault ≡ call_fault head_read h record_read) where
   pub events_fit : fault ≡ 0 → le 2 h 4 ≤ 1024

@@ -1,3 +1,4 @@
 -- What the contracts cite.
 pub mod Faults
 pub mod Replay
+pub mod Numbers

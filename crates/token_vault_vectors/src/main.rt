@@ -1,60 +1,83 @@
 // Replays the vectors of docs/VECTORS.md: lists of calls from standard input, a line a call to standard output. The stored lines are those of the contract's Rust and of the model. At malformed input the run ends with a line to standard error.
 #![tactic(auto)]
 
-ghost use Rattle.std.specs.Prelude.{◌≡◌, ◌≤◌, ◌<◌, length, drop};
+ghost use Rattle.std.specs.Prelude.{◌≡◌, ◌≤◌, ◌++◌, [], ◌∷◌, length, take, Some, OnOk, is_ok};
+ghost use Rattle.std.specs.Io.KnownBytes.{Appends};
 ghost use Rattle.fields.specs.Bytes.{le};
 ghost use Rattle.journal.specs.Step.{vault};
 ghost use Rattle.token_vault.specs.Preview.{request_step};
-ghost use Rattle.vault_vectors.specs.Vectors.{PrintsStep};
+ghost use Rattle.vault_vectors.specs.Vectors.{PrintsStep, step_line, text_of};
 ghost use Rattle.token_vault_vectors.specs.Faults.{head_fault, state_fault, has_needless, call_head_fault, record_fault, call_fault, fault_text, fault_line};
-ghost use Rattle.token_vault_vectors.specs.Replay.{IsStepLine, request_of, AnswersCall, TakesCalls, TakesState, RunsList, TakesList, WithJournal, NextList, IsFault, ListsEnd};
+ghost use Rattle.token_vault_vectors.specs.Numbers.{number_of, number_or_zero, code};
+ghost use Rattle.token_vault_vectors.specs.Replay.{request_of, AnswersCall, TakesCalls, TakesState, RunsList, TakesList, WithJournal, NextList, IsFault, ListsEnd};
 
 use std::io::{Read, Write};
+use std::{fmt, io};
+use vault_vectors::{StepLine, Transaction};
 
-// Every byte of standard output goes through here, and all of them are lines of steps.
-fn write_step_line<O: Write>(output: &mut O, line: &[u8]) -> bool
-    requires { IsStepLine line.now }
-{
-    streams::write_all(output, line)
+// What can be wrong with a list, and with a call of it.
+#[derive(Clone, Copy, Debug, PartialEq, Eq)]
+enum Fault {
+    HeadCut,
+    ImageTooLong,
+    JournalTooLong,
+    HeadNotZero,
+    ImageCut,
+    JournalCut,
+    CallCut,
+    Kind,
+    CallNotZero,
+    Needless,
+    RecordTooLong,
+    EventsTooLong,
+    RecordCut,
 }
 
-fn write_from<O: Write>(output: &mut O, out: &[u8; 512], start: usize) -> bool
-    requires { IsStepLine (drop start out.now) × (start ≤ 512) }
-{
-    let whole = &out[..];
-    write_step_line(output, &whole[start..])
+impl fmt::Display for Fault {
+    ghost output = { λ fault. Some (fault_text (number_of fault)) };
+
+    fn fmt<W: fmt::Write>(&self, f: &mut fmt::Formatter<W>) -> fmt::Result {
+        f.write_str(match *self {
+            Fault::HeadCut => "a list's head is cut short",
+            Fault::ImageTooLong => "a list's image is longer than 36848 bytes",
+            Fault::JournalTooLong => "a list's journal is longer than 48048 bytes",
+            Fault::HeadNotZero => "bytes 12 to 15 of a list's head are not zero",
+            Fault::ImageCut => "a list's image is cut short",
+            Fault::JournalCut => "a list's journal is cut short",
+            Fault::CallCut => "a call's head is cut short",
+            Fault::Kind => "a call's kind is above 5",
+            Fault::CallNotZero => "bytes 6 and 7 of a call's head are not zero",
+            Fault::Needless => "a begin, commit, rollback or undo has a record or an event buffer",
+            Fault::RecordTooLong => "a call's record is longer than 512 bytes",
+            Fault::EventsTooLong => "a call's event buffer is longer than 1024 bytes",
+            Fault::RecordCut => "a call's record is cut short",
+        })
+    }
 }
 
-// Where the line begins in `out`, and whether it was written.
-#[derive(Clone, Copy)]
-struct PrintedLine {
-    start: usize,
-    is_written: bool,
-}
-
-// A whole call: record and event buffer have their lengths, and kinds 1 to 4 have an empty event buffer. The line stands in `out` from the index that is returned to the end.
+// A whole call: record and event buffer have their lengths, and kinds 1 to 4 have an empty event buffer.
 fn answer_call(
     image: &mut [u8],
     journal: &mut [u8],
     head: &[u8; 8],
     record: &[u8],
     events: &mut [u8],
-    out: &mut [u8; 512],
-) -> usize
+) -> StepLine
     requires { length events.old ≡ le 2 head.now 4 }
-    ensures { PrintsStep (request_step (vault image.old journal.old) (request_of head.now «record».now)) (drop result out.new) image.new journal.new × (result ≤ 512) }
+    ensures { PrintsStep (request_step (vault image.old journal.old) (request_of head.now «record».now)) (text_of result ++ (10 ∷ [])) image.new journal.new }
 {
     fields::fill(events, head[1]);
-    let kind = head[0];
-    if kind == 0 {
-        return vault_vectors::answer_operation(image, journal, record, events, out);
+    match head[0] {
+        0 => vault_vectors::answer_operation(image, journal, record, events),
+        1 => vault_vectors::answer_transaction(image, journal, Transaction::Begin),
+        2 => vault_vectors::answer_transaction(image, journal, Transaction::Commit),
+        3 => vault_vectors::answer_transaction(image, journal, Transaction::Rollback),
+        5 => vault_vectors::answer_preview(image, journal, record, events),
+        _ => vault_vectors::answer_transaction(image, journal, Transaction::Undo),
     }
-    if kind == 5 {
-        return vault_vectors::answer_preview(image, journal, record, events, out);
-    }
-    vault_vectors::answer_transaction(image, journal, kind, out)
 }
 
+// Every byte of standard output goes through here, and all of them are lines of steps.
 fn run_call<O: Write>(
     output: &mut O,
     image: &mut [u8],
@@ -62,14 +85,13 @@ fn run_call<O: Write>(
     head: &[u8; 8],
     record: &[u8],
     events: &mut [u8],
-    out: &mut [u8; 512],
-) -> PrintedLine
+) -> io::Result<()>
     requires { length events.old ≡ le 2 head.now 4 }
-    ensures { PrintsStep (request_step (vault image.old journal.old) (request_of head.now «record».now)) (drop result.start out.new) image.new journal.new }
+    ensures step { let s = request_step (vault image.old journal.old) (request_of head.now «record».now) in PrintsStep s (step_line s) image.new journal.new }
+    ensures printed { OnOk result (Appends (O.contents output.old) (O.contents output.new) (step_line (request_step (vault image.old journal.old) (request_of head.now «record».now)))) }
 {
-    let start = answer_call(image, journal, head, record, events, out);
-    let is_written = write_from(output, out, start);
-    PrintedLine { start, is_written }
+    let line = answer_call(image, journal, head, record, events);
+    streams::print_line::<512, _, _>(output, &line)
 }
 
 // How many bytes were read of the head of a call, and of its record.
@@ -89,56 +111,52 @@ fn has_needless(head: &[u8; 8]) -> bool
     fields::both(is_transaction, fields::either(n > 0, m > 0))
 }
 
-fn call_head_fault(head: &[u8; 8], head_read: usize) -> u8
-    ensures { result ≡ call_head_fault head_read head.now }
+fn check_call_head(head: &[u8; 8], head_read: usize) -> Result<(), Fault>
+    ensures { code result ≡ call_head_fault head_read head.now }
 {
     if head_read != 8 {
-        return 7;
+        return Err(Fault::CallCut);
     }
     if head[0] > 5 {
-        return 8;
+        return Err(Fault::Kind);
     }
     if fields::get16(head, 6) != 0 {
-        return 9;
+        return Err(Fault::CallNotZero);
     }
     if has_needless(head) {
-        return 10;
+        return Err(Fault::Needless);
     }
     if fields::get16(head, 2) > 512 {
-        return 11;
+        return Err(Fault::RecordTooLong);
     }
     if fields::get16(head, 4) > 1024 {
-        return 12;
+        return Err(Fault::EventsTooLong);
     }
-    0
+    Ok(())
 }
 
-fn record_fault(head: &[u8; 8], record_read: usize) -> u8
-    ensures { result ≡ record_fault head.now record_read }
+fn check_record(head: &[u8; 8], record_read: usize) -> Result<(), Fault>
+    ensures { code result ≡ record_fault head.now record_read }
 {
     if record_read != fields::get16(head, 2) as usize {
-        return 13;
+        return Err(Fault::RecordCut);
     }
-    0
+    Ok(())
 }
 
-fn call_fault(head: &[u8; 8], read: CallRead) -> u8
-    ensures { result ≡ call_fault read.head_read head.now read.record_read }
+fn check_call(head: &[u8; 8], read: CallRead) -> Result<(), Fault>
+    ensures { code result ≡ call_fault read.head_read head.now read.record_read }
 {
-    let fault = call_head_fault(head, read.head_read);
-    if fault != 0 {
-        return fault;
-    }
-    record_fault(head, read.record_read)
+    check_call_head(head, read.head_read)?;
+    check_record(head, read.record_read)
 }
 
-// What was read of a call, its fault, where its line begins in `out`, and whether the line was written.
-#[derive(Clone, Copy)]
+// What was read of a call, its fault, and whether its line was written.
+#[derive(Drop)]
 struct AnsweredCall {
     read: CallRead,
-    fault: u8,
-    start: usize,
-    is_written: bool,
+    fault: Option<Fault>,
+    written: io::Result<()>,
 }
 
 // The record stands at the start of `record`; `events` is as long as an event buffer may be.
@@ -150,36 +168,26 @@ fn fit_call<O: Write>(
     record: &[u8],
     read: CallRead,
     events: &mut [u8],
-    out: &mut [u8; 512],
 ) -> AnsweredCall
     requires { (read.record_read ≤ length «record».now) × (length events.old ≡ 1024) }
-    ensures { AnswersCall (vault image.old journal.old) result.read.head_read head.now result.read.record_read «record».now result.fault (drop result.start out.new) image.new journal.new × (result.read ≡ read) }
+    ensures { AnswersCall (vault image.old journal.old) result.read.head_read head.now result.read.record_read «record».now (number_or_zero result.fault) (step_line (request_step (vault image.old journal.old) (request_of head.now (take read.record_read «record».now)))) image.new journal.new × (result.read ≡ read) }
 {
-    let fault = call_fault(head, read);
-    if fault != 0 {
-        return AnsweredCall {
+    match check_call(head, read) {
+        Err(fault) => AnsweredCall {
             read,
-            fault,
-            start: 512,
-            is_written: true,
-        };
-    }
-    let n = read.record_read;
-    let m = fields::get16(head, 4) as usize;
-    let line = run_call(
-        output,
-        image,
-        journal,
-        head,
-        &record[..n],
-        &mut events[..m],
-        out,
-    );
-    AnsweredCall {
-        read,
-        fault: 0,
-        start: line.start,
-        is_written: line.is_written,
+            fault: Some(fault),
+            written: Ok(()),
+        },
+        Ok(()) => {
+            let n = read.record_read;
+            let m = fields::get16(head, 4) as usize;
+            let written = run_call(output, image, journal, head, &record[..n], &mut events[..m]);
+            AnsweredCall {
+                read,
+                fault: None,
+                written,
+            }
+        }
     }
 }
 
@@ -189,14 +197,13 @@ fn read_call<I: Read>(input: &mut I, head: &mut [u8; 8], record: &mut [u8]) -> C
     ensures { result.record_read ≤ 512 }
 {
     let head_read = streams::read_full(input, head);
-    if call_head_fault(head, head_read) != 0 {
-        return CallRead {
-            head_read,
-            record_read: 0,
-        };
-    }
-    let n = fields::get16(head, 2) as usize;
-    let record_read = streams::read_full(input, &mut record[..n]);
+    let record_read = match check_call_head(head, head_read) {
+        Err(_) => 0,
+        Ok(()) => {
+            let n = fields::get16(head, 2) as usize;
+            streams::read_full(input, &mut record[..n])
+        }
+    };
     CallRead {
         head_read,
         record_read,
@@ -211,20 +218,19 @@ fn next_call<I: Read, O: Write>(
     head: &mut [u8; 8],
     record: &mut [u8; 512],
     events: &mut [u8; 1024],
-    out: &mut [u8; 512],
 ) -> AnsweredCall
-    ensures { AnswersCall (vault image.old journal.old) result.read.head_read head.new result.read.record_read «record».new result.fault (drop result.start out.new) image.new journal.new }
+    ensures { AnswersCall (vault image.old journal.old) result.read.head_read head.new result.read.record_read «record».new (number_or_zero result.fault) (step_line (request_step (vault image.old journal.old) (request_of head.new (take result.read.record_read «record».new)))) image.new journal.new }
 {
     let read = read_call(input, head, record);
-    fit_call(output, image, journal, head, record, read, events, out)
+    fit_call(output, image, journal, head, record, read, events)
 }
 
 // How many calls were taken, the fault that ended them, and whether the last line was written.
-#[derive(Clone, Copy)]
+#[derive(Drop)]
 struct TakenCalls {
     taken: u32,
-    fault: u8,
-    is_written: bool,
+    fault: Option<Fault>,
+    written: io::Result<()>,
 }
 
 fn all_calls<I: Read, O: Write>(
@@ -234,15 +240,13 @@ fn all_calls<I: Read, O: Write>(
     journal: &mut [u8],
     count: u32,
 ) -> TakenCalls
-    ensures { TakesCalls (vault image.old journal.old) (vault image.new journal.new) count result.taken result.fault result.is_written }
+    ensures { TakesCalls (vault image.old journal.old) (vault image.new journal.new) count result.taken (number_or_zero result.fault) (is_ok result.written) }
 {
     let mut head = [0u8; 8];
     let mut record = [0u8; 512];
     let mut events = [0u8; 1024];
-    let mut out = [0u8; 512];
-    let mut taken = 0;
-    while taken < count {
-        let call = next_call(
+    for taken in 0..count {
+        let AnsweredCall { fault, written, .. } = next_call(
             input,
             output,
             image,
@@ -250,41 +254,44 @@ fn all_calls<I: Read, O: Write>(
             &mut head,
             &mut record,
             &mut events,
-            &mut out,
         );
-        if call.fault != 0 {
+        if fault.is_some() {
             return TakenCalls {
                 taken,
-                fault: call.fault,
-                is_written: true,
+                fault,
+                written: Ok(()),
             };
         }
-        taken += 1;
-        if !call.is_written {
+        if written.is_err() {
             return TakenCalls {
-                taken,
-                fault: 0,
-                is_written: false,
+                taken: taken + 1,
+                fault: None,
+                written,
             };
         }
     }
     TakenCalls {
-        taken,
-        fault: 0,
-        is_written: true,
+        taken: count,
+        fault: None,
+        written: Ok(()),
     }
 }
 
-fn state_fault(image: &[u8], journal: &[u8], image_read: usize, journal_read: usize) -> u8
-    ensures { result ≡ state_fault image_read journal_read (vault image.now journal.now) }
+fn check_state(
+    image: &[u8],
+    journal: &[u8],
+    image_read: usize,
+    journal_read: usize,
+) -> Result<(), Fault>
+    ensures { code result ≡ state_fault image_read journal_read (vault image.now journal.now) }
 {
     if image_read != image.len() {
-        return 5;
+        return Err(Fault::ImageCut);
     }
     if journal_read != journal.len() {
-        return 6;
+        return Err(Fault::JournalCut);
     }
-    0
+    Ok(())
 }
 
 // A list of whose image and journal so many bytes were read.
@@ -297,17 +304,16 @@ fn take_list<I: Read, O: Write>(
     journal_read: usize,
     count: u32,
 ) -> TakenCalls
-    ensures { TakesState (vault image.old journal.old) (vault image.new journal.new) image_read journal_read count result.taken result.fault result.is_written }
+    ensures { TakesState (vault image.old journal.old) (vault image.new journal.new) image_read journal_read count result.taken (number_or_zero result.fault) (is_ok result.written) }
 {
-    let fault = state_fault(image, journal, image_read, journal_read);
-    if fault != 0 {
-        return TakenCalls {
+    match check_state(image, journal, image_read, journal_read) {
+        Err(fault) => TakenCalls {
             taken: 0,
-            fault,
-            is_written: true,
-        };
+            fault: Some(fault),
+            written: Ok(()),
+        },
+        Ok(()) => { all_calls(input, output, image, journal, count) }
     }
-    all_calls(input, output, image, journal, count)
 }
 
 // A list whose head was read: image and journal have their lengths.
@@ -318,7 +324,7 @@ fn run_list<I: Read, O: Write>(
     journal: &mut [u8],
     count: u32,
 ) -> TakenCalls
-    ensures { RunsList image.new journal.new count result.taken result.fault result.is_written }
+    ensures { RunsList image.new journal.new count result.taken (number_or_zero result.fault) (is_ok result.written) }
 {
     let image_read = streams::read_full(input, image);
     let journal_read = streams::read_full(input, journal);
@@ -333,22 +339,22 @@ fn run_list<I: Read, O: Write>(
     )
 }
 
-fn head_fault(head: &[u8; 16], head_read: usize) -> u8
-    ensures { result ≡ head_fault head_read head.now }
+fn check_head(head: &[u8; 16], head_read: usize) -> Result<(), Fault>
+    ensures { code result ≡ head_fault head_read head.now }
 {
     if head_read != 16 {
-        return 1;
+        return Err(Fault::HeadCut);
     }
     if fields::get32(head, 0) > 36848 {
-        return 2;
+        return Err(Fault::ImageTooLong);
     }
     if fields::get32(head, 4) > 48048 {
-        return 3;
+        return Err(Fault::JournalTooLong);
     }
     if fields::get32(head, 12) != 0 {
-        return 4;
+        return Err(Fault::HeadNotZero);
     }
-    0
+    Ok(())
 }
 
 // `image` and `journal` are as long as they may be.
@@ -361,20 +367,21 @@ fn fit_list<I: Read, O: Write>(
     head_read: usize,
 ) -> TakenCalls
     requires { (length image.old ≡ 36848) × (length journal.old ≡ 48048) }
-    ensures { TakesList head_read head.now image.new journal.new result.taken result.fault result.is_written }
+    ensures { TakesList head_read head.now image.new journal.new result.taken (number_or_zero result.fault) (is_ok result.written) }
 {
-    let fault = head_fault(head, head_read);
-    if fault != 0 {
-        return TakenCalls {
+    match check_head(head, head_read) {
+        Err(fault) => TakenCalls {
             taken: 0,
-            fault,
-            is_written: true,
-        };
+            fault: Some(fault),
+            written: Ok(()),
+        },
+        Ok(()) => {
+            let n = fields::get32(head, 0) as usize;
+            let m = fields::get32(head, 4) as usize;
+            let count = fields::get32(head, 8);
+            run_list(input, output, &mut image[..n], &mut journal[..m], count)
+        }
     }
-    let n = fields::get32(head, 0) as usize;
-    let m = fields::get32(head, 4) as usize;
-    let count = fields::get32(head, 8);
-    run_list(input, output, &mut image[..n], &mut journal[..m], count)
 }
 
 // The buffer of the journal stands apart from that of the image, so that no proof has both.
@@ -386,24 +393,22 @@ fn with_journal<I: Read, O: Write>(
     head_read: usize,
 ) -> TakenCalls
     requires { length image.old ≡ 36848 }
-    ensures { WithJournal head_read head.now image.new result.taken result.fault result.is_written }
+    ensures { WithJournal head_read head.now image.new result.taken (number_or_zero result.fault) (is_ok result.written) }
 {
     let mut journal = [0u8; 48048];
     fit_list(input, output, image, &mut journal, head, head_read)
 }
 
-// How many bytes were read of the head of a list, how many calls were taken, the fault that ended them, and whether the last line was written.
-#[derive(Clone, Copy)]
+// How many bytes were read of the head of a list, and its calls.
+#[derive(Drop)]
 struct TakenList {
     head_read: usize,
-    taken: u32,
-    fault: u8,
-    is_written: bool,
+    calls: TakenCalls,
 }
 
 // Where none of the head was read the input ends, and there is no list.
 fn next_list<I: Read, O: Write>(input: &mut I, output: &mut O) -> TakenList
-    ensures { NextList result.head_read result.taken result.fault result.is_written }
+    ensures { NextList result.head_read result.calls.taken (number_or_zero result.calls.fault) (is_ok result.calls.written) }
 {
     let mut head = [0u8; 16];
     let mut image = [0u8; 36848];
@@ -411,124 +416,61 @@ fn next_list<I: Read, O: Write>(input: &mut I, output: &mut O) -> TakenList
     if head_read == 0 {
         return TakenList {
             head_read,
-            taken: 0,
-            fault: 0,
-            is_written: true,
+            calls: TakenCalls {
+                taken: 0,
+                fault: None,
+                written: Ok(()),
+            },
         };
     }
     let calls = with_journal(input, output, &mut image, &head, head_read);
-    TakenList {
-        head_read,
-        taken: calls.taken,
-        fault: calls.fault,
-        is_written: calls.is_written,
-    }
+    TakenList { head_read, calls }
 }
 
 // How many lists were taken to their end; and of the last one how many bytes were read of its head, its fault, and whether its lines were written.
-#[derive(Clone, Copy)]
+#[derive(Drop)]
 struct TakenLists {
     taken: u64,
     head_read: usize,
-    fault: u8,
-    is_written: bool,
+    fault: Option<Fault>,
+    written: io::Result<()>,
 }
 
 // A proved loop has to end: it stops at a number of lists that no run reaches.
 fn all_lists<I: Read, O: Write>(input: &mut I, output: &mut O) -> TakenLists
-    ensures { ListsEnd result.taken result.head_read result.fault result.is_written }
+    ensures { ListsEnd result.taken result.head_read (number_or_zero result.fault) (is_ok result.written) }
 {
-    let mut taken = 0u64;
-    while taken < u64::MAX {
-        let list = next_list(input, output);
-        let head_read = list.head_read;
-        let fault = list.fault;
-        let is_written = list.is_written;
-        if head_read == 0 || fault != 0 || !is_written {
+    for taken in 0..u64::MAX {
+        let TakenList { head_read, calls } = next_list(input, output);
+        let TakenCalls { fault, written, .. } = calls;
+        if head_read == 0 || fault.is_some() || written.is_err() {
             return TakenLists {
                 taken,
                 head_read,
                 fault,
-                is_written,
+                written,
             };
         }
-        taken += 1;
     }
     TakenLists {
-        taken,
+        taken: u64::MAX,
         head_read: 16,
-        fault: 0,
-        is_written: true,
+        fault: None,
+        written: Ok(()),
     }
 }
 
 // Every byte of standard error goes through here, and all of them are the line of a fault that a list has.
-fn write_fault_line<E: Write>(error: &mut E, line: &[u8], fault: u8) -> bool
-    requires { (line.now ≡ fault_line fault) × IsFault fault }
+fn write_fault<E: Write>(error: &mut E, fault: Fault) -> io::Result<()>
+    requires { IsFault (number_of fault) }
+    ensures { OnOk result (Appends (E.contents error.old) (E.contents error.new) (fault_line (number_of fault))) }
 {
-    streams::write_all(error, line)
-}
-
-fn write_sentence<E: Write>(error: &mut E, sentence: &[u8], fault: u8) -> bool
-    requires { (sentence.now ≡ fault_text fault) × (length sentence.now ≤ 80) × IsFault fault }
-{
-    let mut out = [0u8; 128];
-    let start = answer_line::write_message(&mut out, 128, b"token_vault_vectors: ", sentence);
-    let whole = &out[..];
-    write_fault_line(error, &whole[start..], fault)
-}
-
-fn write_list_fault<E: Write>(error: &mut E, fault: u8) -> bool
-    requires { IsFault fault × (fault < 7) }
-{
-    match fault {
-        1 => write_sentence(error, b"a list's head is cut short", fault),
-        2 => write_sentence(error, b"a list's image is longer than 36848 bytes", fault),
-        3 => write_sentence(error, b"a list's journal is longer than 48048 bytes", fault),
-        4 => write_sentence(
-            error,
-            b"bytes 12 to 15 of a list's head are not zero",
-            fault,
-        ),
-        5 => write_sentence(error, b"a list's image is cut short", fault),
-        _ => write_sentence(error, b"a list's journal is cut short", fault),
-    }
-}
-
-fn write_call_fault<E: Write>(error: &mut E, fault: u8) -> bool
-    requires { IsFault fault × (7 ≤ fault) }
-{
-    match fault {
-        7 => write_sentence(error, b"a call's head is cut short", fault),
-        8 => write_sentence(error, b"a call's kind is above 5", fault),
-        9 => write_sentence(error, b"bytes 6 and 7 of a call's head are not zero", fault),
-        10 => write_sentence(
-            error,
-            b"a begin, commit, rollback or undo has a record or an event buffer",
-            fault,
-        ),
-        11 => write_sentence(error, b"a call's record is longer than 512 bytes", fault),
-        12 => write_sentence(
-            error,
-            b"a call's event buffer is longer than 1024 bytes",
-            fault,
-        ),
-        _ => write_sentence(error, b"a call's record is cut short", fault),
-    }
-}
-
-fn write_fault<E: Write>(error: &mut E, fault: u8) -> bool
-    requires { IsFault fault }
-{
-    if fault < 7 {
-        return write_list_fault(error, fault);
-    }
-    write_call_fault(error, fault)
+    streams::print_line::<128, _, _>(error, &format_args!("token_vault_vectors: {fault}"))
 }
 
 fn main(rt: HostRuntime) {
     let lists = all_lists(&mut rt.stdin(), &mut rt.stdout());
-    if lists.fault != 0 {
-        write_fault(&mut rt.stderr(), lists.fault);
+    if let Some(fault) = lists.fault {
+        write_fault(&mut rt.stderr(), fault).ok();
     }
 }

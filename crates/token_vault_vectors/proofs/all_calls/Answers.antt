@@ -1,5 +1,7 @@
 -- `all_calls` meets its contract. The invariant: image and journal are those after the calls so far.
-use mathlib.Core.Path.{refl}
+use mathlib.Core.Path.{◌≡◌, refl, sym, ap, ◌∙◌}
+use Rattle.std.specs.Prelude.{not}
+use Rattle.token_vault_vectors.specs.Numbers.{number_where, zero_where}
 use mathlib.Core.Logic.{inl, inr}
 use native.Mathlib.Omega.{arith}
 use borrow.Author.Rules.{rules}
@@ -7,16 +9,23 @@ use Rattle.token_vault_vectors.proofs.Replaying.{none_taken, one_more, none_more
 use Rattle.token_vault_vectors.proofs.all_calls.Goals as goal
 
 pub loop-taken-init : goal.loop-taken-init
-loop-taken-init g c = (none_taken _, refl, refl, omega arith)
+loop-taken-init g c = (none_taken _, refl, refl)
 
-pub returns-then-call-ne0 : goal.returns-then-call-ne0
-returns-then-call-ne0 g c = ended (none_more c.loop-taken.invariant.0 (c.next_call-call.ensures.other c.if-call-ne0.true)) (omega arith) (inr (inl (call_faulty _ _ _ c.next_call-call.ensures.decided c.if-call-ne0.true)))
+pub returns-then-is_some : goal.returns-then-is_some
+returns-then-is_some g c =
+    let a = c.next_call-fault.ensures in
+    let n = number_where _ (sym c.is_some.ensures ∙ c.if-is_some.true) in
+    ended (none_more c.loop-taken.invariant.0 (a.other n)) (omega arith) (inr (inl (call_faulty _ _ _ a.decided n)))
 
-pub returns-then-not-call : goal.returns-then-not-call
-returns-then-not-call g c = ended (one_more c.loop-taken.invariant.0 c.next_call-call.ensures c.if-call-ne0.false) (omega arith) (inr (inr (refl, refl)))
+pub returns-then-is_err : goal.returns-then-is_err
+returns-then-is_err g c =
+    let z = zero_where _ (sym c.is_some.ensures ∙ c.if-is_some.false) in
+    ended (one_more c.loop-taken.invariant.0 c.next_call-fault.ensures z) (omega arith) (inr (inr (c.is_err.ensures.negation ∙ ap not c.if-is_err.true, refl)))
 
 pub loop-taken-preserved : goal.loop-taken-preserved
-loop-taken-preserved g c = (one_more c.loop-taken.invariant.0 c.next_call-call.ensures c.if-call-ne0.false, search rules, search rules, omega arith)
+loop-taken-preserved g c =
+    let z = zero_where _ (sym c.is_some.ensures ∙ c.if-is_some.false) in
+    (one_more c.loop-taken.invariant.0 c.next_call-fault.ensures z, search rules, search rules)
 
 pub returns : goal.returns
-returns g c = ended c.loop-taken.invariant.0 (omega arith) (inl (omega arith, refl))
+returns g c = let l = c.loop-taken in let all : l.taken ≡ c.args.count = omega arith in ended (rw all at l.invariant.0) (omega arith) (inl (refl, refl))

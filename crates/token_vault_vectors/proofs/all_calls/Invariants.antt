@@ -7,7 +7,4 @@ use Rattle.token_vault_vectors.proofs.Replaying.{Taken}
 use Rattle.token_vault_vectors.proofs.all_calls.Given as goal
 
 abbrev pub invariant-loop-taken : goal.invariant-loop-taken
-invariant-loop-taken g l = Taken (vault l.initial.image l.initial.journal) (vault l.image l.journal) l.taken × (length l.image ≡ length l.initial.image) × (length l.journal ≡ length l.initial.journal) × (l.taken ≤ l.count)
-
-abbrev pub decreases-loop-taken : goal.decreases-loop-taken
-decreases-loop-taken g l = l.count - l.taken
+invariant-loop-taken g l = Taken (vault l.initial.image l.initial.journal) (vault l.image l.journal) l.taken × (length l.image ≡ length l.initial.image) × (length l.journal ≡ length l.initial.journal)

@@ -1,16 +1,20 @@
--- `all_lists` meets its contract. The invariant: the count is at most 2 ^ 64 - 1.
-use mathlib.Core.Path.{refl}
-use mathlib.Core.Logic.{inl, inr, ⊎_elim}
-use native.Mathlib.Omega.{arith}
+-- `all_lists` meets its contract.
+use Rattle.token_vault_vectors.proofs.all_lists.Goals.{then-head_read-eq0-via-then-head_read-eq0, then-head_read-eq0-via-else-head_read-eq0+then-is_some, then-head_read-eq0-via-else-head_read-eq0+else-is_some+then-is_err}
+use mathlib.Core.Path.{refl, sym, ap, ◌∙◌}
+use mathlib.Core.Logic.{inl, inr}
+use Rattle.std.specs.Prelude.{not}
+use Rattle.token_vault_vectors.specs.Numbers.{number_where, zero_where}
 use Rattle.token_vault_vectors.proofs.Replaying.{list_faulty}
 use Rattle.token_vault_vectors.proofs.all_lists.Goals as goal
 
 pub returns-then-head_read-eq0 : goal.returns-then-head_read-eq0
 returns-then-head_read-eq0 g c =
-    let l = c.next_list-list.ensures in
-    ⊎_elim (λ w. inl (w, (l.none w).0))
-    (λ v. ⊎_elim (λ w. inr (inl (list_faulty l w.1))) (λ w. inr (inr (inl (w.2, w.1)))) v)
-    c.then-head_read-eq0.either
+    let l = c.next_list-head_read.ensures in
+    elim c.then-head_read-eq0.branch [
+      | then-head_read-eq0-via-then-head_read-eq0 w ↦ inl (w.if-head_read-eq0.true, (l.none w.if-head_read-eq0.true).0)
+      | then-head_read-eq0-via-else-head_read-eq0+then-is_some w ↦ inr (inl (list_faulty l (number_where _ (sym w.is_some.ensures ∙ w.if-is_some.true))))
+      | then-head_read-eq0-via-else-head_read-eq0+else-is_some+then-is_err w ↦ inr (inr (inl (w.is_err.ensures.negation ∙ ap not w.if-is_err.true, zero_where _ (sym w.is_some.ensures ∙ w.if-is_some.false))))
+    ]
 
 pub returns : goal.returns
-returns g c = inr (inr (inr (omega arith, refl)))
+returns g c = inr (inr (inr (refl, refl)))

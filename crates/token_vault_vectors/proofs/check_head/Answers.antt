@@ -1,9 +1,9 @@
--- `head_fault` meets its contract.
+-- `check_head` meets its contract.
 use mathlib.Core.Path.{refl}
 use native.Mathlib.Omega.{arith}
 use Rattle.fields.specs.Rules.{stop_at}
 use Rattle.token_vault_vectors.specs.Faults.{head_fault}
-use Rattle.token_vault_vectors.proofs.head_fault.Goals as goal
+use Rattle.token_vault_vectors.proofs.check_head.Goals as goal
 
 pub returns-then-head_read-ne16 : goal.returns-then-head_read-ne16
 unfolding head_fault

@@ -1,9 +1,9 @@
--- `call_head_fault` meets its contract.
+-- `check_call_head` meets its contract.
 use mathlib.Core.Path.{refl, sym, ◌∙◌}
 use native.Mathlib.Omega.{arith}
 use Rattle.fields.specs.Rules.{stop_at}
 use Rattle.token_vault_vectors.specs.Faults.{call_head_fault}
-use Rattle.token_vault_vectors.proofs.call_head_fault.Goals as goal
+use Rattle.token_vault_vectors.proofs.check_call_head.Goals as goal
 
 pub returns-then-head_read-ne8 : goal.returns-then-head_read-ne8
 unfolding call_head_fault

@@ -1,9 +1,9 @@
--- `record_fault` meets its contract.
+-- `check_record` meets its contract.
 use mathlib.Core.Path.{refl}
 use native.Mathlib.Omega.{arith}
 use Rattle.fields.specs.Rules.{stop_at}
 use Rattle.token_vault_vectors.specs.Faults.{record_fault}
-use Rattle.token_vault_vectors.proofs.record_fault.Goals as goal
+use Rattle.token_vault_vectors.proofs.check_record.Goals as goal
 
 pub returns-then-record_read-get16 : goal.returns-then-record_read-get16
 unfolding record_fault

@@ -1,9 +1,9 @@
--- `state_fault` meets its contract.
+-- `check_state` meets its contract.
 use mathlib.Core.Path.{refl}
 use native.Mathlib.Omega.{arith}
 use Rattle.fields.specs.Rules.{stop_at}
 use Rattle.token_vault_vectors.specs.Faults.{state_fault}
-use Rattle.token_vault_vectors.proofs.state_fault.Goals as goal
+use Rattle.token_vault_vectors.proofs.check_state.Goals as goal
 
 pub returns-then-image_read-image : goal.returns-then-image_read-image
 unfolding state_fault
