@@ -4,31 +4,32 @@
 ghost use Rattle.std.specs.Prelude.{◌≡◌, ◌<◌, ◌≤◌, length};
 
 use amount::Amount;
+use refusal::Refusal;
 use std::io;
 
-fn number(rt: &impl Print, n: u64) -> io::Result<()> {
-    print!(rt; "{n} ")
-}
-
-fn end(rt: &impl Print) -> io::Result<()> {
-    println!(rt)
+// The number of a refusal, and 0 for none.
+fn number(answer: Result<(), Refusal>) -> u8 {
+    match answer {
+        Ok(()) => 0,
+        Err(refusal) => u8::from(refusal),
+    }
 }
 
 fn show(rt: &impl Print, image: &[u8], t: usize, a: usize) -> io::Result<()>
     requires { (length image.now ≡ 36832) × (48 ≤ t) × (t < 64) × (a < 64) }
 {
     let held = token::balance(image, t, a);
-    number(rt, held.lo)
+    print!(rt; "{} ", held.0 % (1 << 64))
 }
 
-// The transfer's number; 30 where the image is not good.
-fn moved(image: &mut [u8], t: usize, from: usize, to: usize, n: u64) -> u8
+// 30 where the image is not good.
+fn moved(image: &mut [u8], t: usize, from: usize, to: usize, n: u64) -> Result<(), Refusal>
     requires { (length image.old ≡ 36832) × (from < 64) × (to < 64) }
 {
     if !image::good_image(image) {
-        return 30;
+        return Err(Refusal::InvalidImage);
     }
-    token::transfer(image, t, from, to, amount::from_u64(n))
+    token::transfer(image, t, from, to, Amount::from(n))
 }
 
 fn try_transfer(
@@ -41,31 +42,30 @@ fn try_transfer(
 ) -> io::Result<()>
     requires { (length image.old ≡ 36832) × (48 ≤ t) × (t < 64) × (from < 64) × (to < 64) }
 {
-    let k = moved(image, t, from, to, n);
-    number(rt, k as u64)?;
+    let answer = moved(image, t, from, to, n);
+    print!(rt; "{} ", number(answer))?;
     show(rt, image, t, from)?;
     show(rt, image, t, to)?;
-    end(rt)
+    println!(rt)
 }
 
 // An address that is no token's.
 fn try_stranger(rt: &impl Print, image: &mut [u8], t: usize) -> io::Result<()>
     requires { length image.old ≡ 36832 }
 {
-    let k = moved(image, t, 2, 1, 1);
-    number(rt, k as u64)?;
-    end(rt)
+    let answer = moved(image, t, 2, 1, 1);
+    println!(rt; "{} ", number(answer))
 }
 
 fn fill(image: &mut [u8])
     requires { length image.old ≡ 36832 }
 {
     fields::put64(image, 3680, 1);
-    amount::write_amount(image, 3688, amount::from_u64(3));
+    amount::write_amount(image, 3688, Amount::from(3));
     fields::put64(image, 3704, 2);
-    amount::write_amount(image, 4080, amount::from_u64(10));
-    amount::write_amount(image, 4096, amount::from_u64(100));
-    amount::write_amount(image, 5120, amount::from_u64(100));
+    amount::write_amount(image, 4080, Amount::from(10));
+    amount::write_amount(image, 4096, Amount::from(100));
+    amount::write_amount(image, 5120, Amount::from(100));
 }
 
 // Done, short of the amount, to itself, a toll above the amount, frozen, absent.
@@ -84,14 +84,7 @@ fn plain(rt: &impl Print, image: &mut [u8]) -> io::Result<()>
 fn at_the_end(rt: &impl Print, image: &mut [u8]) -> io::Result<()>
     requires { length image.old ≡ 36832 }
 {
-    amount::write_amount(
-        image,
-        4144,
-        Amount {
-            hi: 9223372036854775807,
-            lo: 18446744073709551615,
-        },
-    );
+    amount::write_amount(image, 4144, Amount(i128::MAX));
     try_transfer(rt, image, 48, 2, 5, 4)?;
     try_transfer(rt, image, 48, 2, 5, 3)
 }
