@@ -96,29 +96,25 @@ struct TakenRecords {
 }
 
 // A proved loop has to end: it stops at a number of records that no run reaches.
-fn all_records<I: Read, O: Write>(
-    input: &mut I,
-    output: &mut O,
-    image: &mut [u8],
-) -> TakenRecords
+fn all_records<I: Read, O: Write>(input: &mut I, output: &mut O, image: &mut [u8]) -> TakenRecords
     ensures { TakesRecords image.old image.new result.taken result.read (is_ok result.written) }
 {
     let mut record = [0u8; 448];
     let mut taken = 0u64;
     while taken < u64::MAX {
-        let AnsweredRecord { read, written } = next_record(input, output, image, &mut record);
-        if read == 0 {
+        let AnsweredRecord { read: n, written } = next_record(input, output, image, &mut record);
+        if n == 0 {
             return TakenRecords {
                 taken,
-                read,
+                read: n,
                 written,
             };
         }
         taken += 1;
-        if read < 448 || written.is_err() {
+        if n < 448 || written.is_err() {
             return TakenRecords {
                 taken,
-                read,
+                read: n,
                 written,
             };
         }

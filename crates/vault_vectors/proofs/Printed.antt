@@ -1,12 +1,10 @@
 -- A call's number, value, count and bytes, put into the line of its step.
-use mathlib.Core.Path.{◌≡◌, refl, ap, ◌∙◌}
+use mathlib.Core.Path.{◌≡◌, refl, ◌∙◌}
 use mathlib.Core.List.{List, []}
-use Prim.Native.Nat.{ℕ, ◌-◌}
-use native.Mathlib.Omega.{arith}
-use lib.IntN.{ℤ, pos, sub_ℕ}
+use Prim.Native.Nat.{ℕ}
+use lib.IntN.{ℤ, pos}
 use borrow.Author.Tests.{leb-true}
 use Rattle.amount.specs.Biased.{bias}
-use Rattle.amount.specs.Laws.{subℕ_ge}
 use Rattle.answer_line.specs.Decimal.{answer_words}
 use Rattle.journal.specs.Calls.{Step}
 use Rattle.journal.specs.Step.{vault}

@@ -4,7 +4,6 @@ use mathlib.Core.Bool.{Bool, true, false}
 use mathlib.Core.List.{List, []}
 use Prim.Native.Nat.{ℕ, zero, suc}
 use lib.Dec.{eqb}
-use borrow.Author.Tests.{ne_eqb}
 use Rattle.fields.specs.Rules.{pick}
 use Rattle.image.specs.Layout.{cells}
 use Rattle.image.specs.Good.{good_image}

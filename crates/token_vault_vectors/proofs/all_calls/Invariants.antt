@@ -1,6 +1,5 @@
 -- `all_calls` meets its contract. The invariant: image and journal are those after the calls so far.
 use mathlib.Core.Path.{◌≡◌}
-use Prim.Native.Nat.{◌-◌, ◌≤◌}
 use lib.ListN.{length}
 use Rattle.journal.specs.Step.{vault}
 use Rattle.token_vault_vectors.proofs.Replaying.{Taken}

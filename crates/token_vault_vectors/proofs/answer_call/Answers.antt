@@ -1,5 +1,5 @@
 -- `answer_call` meets its contract.
-use Rattle.std.proofs.Common.{◌≡◌, ap, sym, ◌∙◌, arith}
+use Rattle.std.proofs.Common.{ap, sym, arith}
 use Rattle.vault_vectors.specs.Vectors.{transaction}
 use Rattle.token_vault_vectors.proofs.Replaying.{operation_called, preview_called, transaction_called, is_undo}
 use Rattle.token_vault_vectors.proofs.answer_call.Goals as goal

@@ -1,5 +1,5 @@
 -- `check_call` meets its contract.
-use Rattle.std.proofs.Common.{◌≡◌, ℕ, ap, ◌∙◌, sym, arith, Result, Ok, Err, IsErr, IsErrAnd, refl}
+use Rattle.std.proofs.Common.{◌≡◌, ℕ, ap, ◌∙◌, sym, Result, Ok, Err, IsErr, IsErrAnd, refl}
 use Rattle.fields.specs.Rules.{link_at_lem, ends_at}
 use Rattle.token_vault_vectors.specs.declared.Fault.{Fault}
 use Rattle.token_vault_vectors.specs.Faults.{call_fault}

@@ -1,7 +1,7 @@
 -- `step_line` meets its contract: the digests stand where the line has them.
-use Rattle.std.proofs.Common.{refl, append_assoc, append-nil}
-use Rattle.answer_line.specs.Decimal.{answer_words, answer_text, value_text, events_text}
-use Rattle.vault_vectors.specs.Vectors.{text_of, digests, digest_text, event_bytes_text, image_text, journal_text}
+use Rattle.std.proofs.Common.{refl, append_assoc}
+use Rattle.answer_line.specs.Decimal.{answer_words}
+use Rattle.vault_vectors.specs.Vectors.{text_of, digests, digest_text}
 use Rattle.vault_vectors.proofs.step_line.Goals as goal
 
 pub returns : goal.returns
