@@ -8,6 +8,3 @@ use Rattle.deposits.proofs.deposit.Goals as goal
 pub deposit_of-requires : goal.deposit_of-requires
 unfolding reads_caller member
 deposit_of-requires c = let f = c.requires.1 in (c.requires.0, omega (arith, caller_in f refl), c.requires.2)
-
-pub returns : goal.returns
-returns c = rw (c.caller-caller.ensures, c.signers-signers.ensures, c.sequence-sequence.ensures, c.amount.ensures) at c.deposit_of.ensures

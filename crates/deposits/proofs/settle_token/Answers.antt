@@ -5,6 +5,3 @@ use Rattle.deposits.proofs.settle_token.Goals as goal
 
 pub add_credit-requires : goal.add_credit-requires
 add_credit-requires c = (search rules, snapshot_keys c.args.img.now c.args.t _ _ c.requires.3 c.requires.1 c.record_vault_balance.ensures, c.requires.2, c.requires.3, c.requires.4, c.requires.5)
-
-pub returns : goal.returns
-returns c = record { img_after = rw (c.add_credit.ensures, c.record_vault_balance.ensures, c.balance-held.ensures); events_after = rw (c.put_event.ensures, c.balance-held.ensures) }
