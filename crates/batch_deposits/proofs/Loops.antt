@@ -85,15 +85,6 @@ pub record Underway (r : List ℕ) (t count : ℕ) (l₀ : List ℕ) (i : ℕ) (
   pub image : transfers_image count r t 0 l₀ ≡ transfers_image (count - i) r t i l
   pub written : Written i e (transfers_events count r t 0 l₀) (transfers_events (count - i) r t i l)
 
-pub begin : (r : List ℕ) (t count : ℕ) (l : List ℕ) {e : List ℕ} → Good l → e ≡ event_buffer [] → Underway r t count l 0 l e
-begin r t count l g p =
-    record {
-      good = g;
-      number = rw sub-zero;
-      image = rw sub-zero;
-      written = record { done = []; long = refl; bytes = p; joined = rw sub-zero };
-    }
-
 module _ (r : List ℕ) (t count : ℕ) (l₀ : List ℕ) (i : ℕ) (l e : List ℕ) (w : Underway r t count l₀ i l e) where
   -- a turn: k is the number of the transfer, y and v image and events after it
   module _ {k : ℕ} (h : i < count) (q : k ≡ transfer_number l t (item_address r i) 1 (item_amount r i)) where

@@ -41,13 +41,11 @@ module _ (l r : List ℕ) (t seq count s : ℕ) {y : List ℕ} {o d h j : ℕ}
       let w : d ≡ expected_holding l t s = b ∙ ap (λ (u : ℕ). u + s - bias) a in
       ends_at _ 1 _ (sym z, tt) (rw (last, w) at x)
 
-module _ (l r : List ℕ) (t seq count s : ℕ) {y : List ℕ} {o d h : ℕ}
-    (z : 0 ≡ transfers_number count r t 0 l) (q : y ≡ transfers_image count r t 0 l) (a : o ≡ holding l (slot t) 1) (b : d ≡ o + s - bias) (f : h ≡ holding y (slot t) 1) (x : 0 ≡ expected_number h d) where
-  pub collected : {a : Done} {m v : List ℕ} → m ≡ record_balance y t seq h → v ≡ event_buffer (transfers_events count r t 0 l)
+  pub collected : {a : Done} {m v : List ℕ} → j ≡ 0 → m ≡ record_balance y t seq h → v ≡ event_buffer (transfers_events count r t 0 l)
       → (biased a.value ≡ bias) × (a.events ≡ count) → Does (collect_outcome l r t seq count s) (Ok a) m v
   unfolding collect_outcome
-  collected p g n =
-      accepted (sym (compared l r t seq count s z q a b f x)) (n.0 ∙ sym (add-zero bias)) (n.1 ∙ sym (events_long count r t 0 l)) (rw (q, last l r t seq count s z q a b f x) at p) g
+  collected i p g n =
+      accepted (sym compared ∙ i) (n.0 ∙ sym (add-zero bias)) (n.1 ∙ sym (events_long count r t 0 l)) (rw (q, last) at p) g
 
 -- ---- the first two checks passed, of the image and of the items; t is the default token, s the sum, and j is what the checks from 10 on gave
 module _ (l r : List ℕ) (signers seq count : ℕ) (y : 0 ≡ open_number l count) (f : 0 ≡ items_number count r signers 0) (t s : ℕ) (p : t ≡ default_token l) (b : s ≡ bias + items_sum count r 0) where

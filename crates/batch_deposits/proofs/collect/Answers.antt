@@ -4,6 +4,7 @@ use Rattle.batch_deposits.specs.Batch.{collect_outcome}
 use Rattle.batch_deposits.proofs.Whole.{compared, collected}
 use Rattle.outcome.specs.Outcome.{refused}
 use Rattle.amount.specs.Biased.{biased}
+use mathlib.Core.Path.{refl}
 use Rattle.batch_deposits.proofs.collect.Goals as goal
 
 pub returns-in_err-transfer_items : goal.returns-in_err-transfer_items
@@ -20,4 +21,4 @@ pub returns : goal.returns
 returns c =
     let x = c.args in
     let y = c.in_ok-transfer_items.ensures in
-    collected x.img.now x.rec.now x.t x.sequence x.count (biased x.sum) y.value y.img_after.0 c.balance.ensures c.add-expected.ensures c.balance-held.ensures c.in_ok-expected_check.ensures c.record_vault_balance.ensures y.img_after.1 c.new.ensures
+    collected x.img.now x.rec.now x.t x.sequence x.count (biased x.sum) y.value y.img_after.0 c.balance.ensures c.add-expected.ensures c.balance-held.ensures c.in_ok-expected_check.ensures refl c.record_vault_balance.ensures y.img_after.1 c.new.ensures

@@ -1,19 +1,15 @@
 -- `batch_deposits::transfer_items` meets its contract.
 use mathlib.Core.Path.{refl, ◌∙◌}
-use Rattle.batch_deposits.proofs.Loops.{begin, written_long, stops, goes_on, ends}
+use Rattle.batch_deposits.proofs.Loops.{written_long, stops, goes_on, ends}
 use Rattle.refusal.specs.Laws.{code_passed, some_number}
 use native.Mathlib.Omega.{arith}
 use borrow.Author.Rules.{rules}
 use Rattle.batch_deposits.proofs.transfer_items.Goals as goal
 
-pub loop-i-init : goal.loop-i-init
-loop-i-init c = (refl, begin c.args.rec.now c.args.t c.args.count c.args.img.now c.requires.good.0 c.requires.good.1)
-
-pub transfer_item-requires : goal.transfer_item-requires
-transfer_item-requires c =
+pub transfer_item-requires-clause-good : goal.transfer_item-requires-clause-good
+transfer_item-requires-clause-good c =
     let l = c.loop-i in
-    let (a, b) = c.requires.by_index l.i (omega arith) in
-    record { good = (l.invariant.1.good, written_long l.invariant.1.written (omega arith), c.requires.good.2, omega arith, c.requires.good.4, c.requires.good.5); i_bound = (a, omega arith) }
+    (l.invariant.1.good, written_long l.invariant.1.written (omega arith), c.requires.good.2, omega arith, c.requires.good.4, c.requires.good.5)
 
 pub returns-in_err-transfer_item-clause-value : goal.returns-in_err-transfer_item-clause-value
 returns-in_err-transfer_item-clause-value c =
