@@ -13,18 +13,19 @@ use Rattle.journal.proofs.Dispatch.{operated-refused, operated-view, operated-cl
 use Rattle.std.proofs.Common.{Ok, Err}
 use Rattle.refusal.specs.declared.Refusal.{Refusal}
 use Rattle.refusal.specs.Numbers.{number_of, code}
+use Rattle.refusal.specs.Numbers.{number_of}
 use Rattle.refusal.specs.Laws.{some_number}
 use Rattle.outcome.specs.declared.Done.{Done as Made}
 use Rattle.journal.specs.Parts.{Enters}
 use Rattle.journal.specs.Step.{vault, reply, blank, lent, operated, begun, committed, rolled_back, undone, step}
-use Rattle.outcome.specs.Outcome.{Answer, value_of, count_of, Refuses, silent, value_is, count_is, Does, Views}
+use Rattle.outcome.specs.Outcome.{Answer, value_of, count_of, Does, Views}
 use Rattle.events.specs.Event.{event_buffer, buffer_number}
 use Rattle.events.specs.Buffer.{buffer_none}
 use Rattle.record.specs.Form.{is_view, form_number}
 use Rattle.record.specs.Record.{operation_of}
 use Rattle.image.specs.Layout.{cells}
 use Rattle.image.specs.Good.{good_image}
-use Rattle.amount.specs.Biased.{bias, biased}
+use Rattle.amount.specs.Biased.{bias}
 use Rattle.fields.specs.Rules.{pick, link_at_lem}
 use Rattle.operations.specs.Operations.{outcome_of}
 use Rattle.operations.proofs.Silent.{view_silent}
@@ -192,6 +193,20 @@ state_31 b j g h = rw (g, h)
 pub state_0 : (b : Bool) (j : List ℕ) → b ≡ true → good_journal cells j ≡ true → 0 ≡ state_number b j
 unfolding state_number
 state_0 b j g h = rw (g, h)
+
+-- what the test of 30 says
+pub good_pick : (b : Bool) → ◌≡◌ {A = ℕ} 0 (pick b 0 30) → b ≡ true
+good_pick true e = refl
+good_pick false e = absurd (omega arith)
+
+pub bad_pick : (b : Bool) (e : Refusal) → number_of e ≡ pick b 0 30 → (b ≡ false) × (number_of e ≡ 30)
+bad_pick true e h = absurd (some_number e h)
+bad_pick false e h = (refl, h)
+
+pub good_30 : (b : Bool) (j : List ℕ) (e : Refusal) → number_of e ≡ pick b 0 30 → number_of e ≡ state_number b j
+unfolding state_number
+good_30 true j e h = absurd (some_number e h)
+good_30 false j e h = h
 
 module _ (l j : List ℕ) {b : Bool} {k : ℕ} (g : b ≡ good_image l) (p : k ≡ state_number b j) where
   pub good_state : k ≡ 0 → (good_image l ≡ true) × (good_journal cells j ≡ true)

@@ -2,7 +2,8 @@
 #![tactic(auto)]
 
 ghost use Rattle.std.specs.Prelude.{◌≡◌, true, false, length};
-ghost use Rattle.amount.specs.Biased.{bias, biased};
+ghost use Rattle.fields.specs.Rules.{pick};
+ghost use Rattle.amount.specs.Biased.{biased};
 ghost use Rattle.events.specs.Splice.{amount_bytes};
 ghost use Rattle.image.specs.Layout.{image_length, cells};
 ghost use Rattle.outcome.specs.Outcome.{value_of, count_of};
@@ -22,19 +23,29 @@ ghost use Rattle.token_vault.specs.Public.{CallIs, CallAlone, closed_journal, Jo
 use outcome::{Answer, Done};
 use refusal::Refusal;
 
-// An answer as the caller gets it: value and event count are written out, and the number is returned.
-fn write_answer(answer: Answer, value: &mut [u8; 16], event_count: &mut u32) -> u32
-    ensures { (result ≡ code answer) × (value.new ≡ amount_bytes (value_of answer)) × (event_count.new ≡ count_of answer) }
+fn write_done(done: Done, value: &mut [u8; 16], event_count: &mut u32)
+    ensures { (value.new ≡ amount_bytes (biased done.value)) × (event_count.new ≡ done.events) }
 {
-    let (number, done) = match answer {
-        Ok(done) => (0, done),
-        Err(refusal) => (u8::from(refusal), Done::new(0)),
-    };
     let mut bytes = [0u8; 16];
     amount::write_amount(&mut bytes, 0, done.value);
     *value = bytes;
     *event_count = u32::from(done.events);
-    u32::from(number)
+}
+
+// An answer as the caller gets it: value and event count are written out, and the number is returned.
+fn write_answer(answer: Answer, value: &mut [u8; 16], event_count: &mut u32) -> u32
+    ensures { (result ≡ code answer) × (value.new ≡ amount_bytes (value_of answer)) × (event_count.new ≡ count_of answer) }
+{
+    match answer {
+        Ok(done) => {
+            write_done(done, value, event_count);
+            0
+        }
+        Err(refusal) => {
+            write_done(Done::new(0), value, event_count);
+            u32::from(u8::from(refusal))
+        }
+    }
 }
 
 // A view on good bytes: the event buffer is blank.
@@ -98,13 +109,21 @@ fn run_operation(image: &mut [u8], journal: &mut [u8], rec: &[u8], events: &mut 
     }
 }
 
-// 30, 31. The test of the image is its caller's, so that the compiler keeps it a function of its own.
-fn state_check(is_image_good: bool, journal: &[u8]) -> Result<(), Refusal>
-    ensures { code result ≡ state_number is_image_good journal.now }
+// 30. The test of the image is its caller's, so that the compiler keeps it a function of its own.
+fn image_check(is_image_good: bool) -> Result<(), Refusal>
+    ensures { code result ≡ pick is_image_good 0 30 }
 {
     if !is_image_good {
         return Err(Refusal::InvalidImage);
     }
+    Ok(())
+}
+
+// 30, 31.
+fn state_check(is_image_good: bool, journal: &[u8]) -> Result<(), Refusal>
+    ensures { code result ≡ state_number is_image_good journal.now }
+{
+    image_check(is_image_good)?;
     if !journal::good_journal(journal, 2302) {
         return Err(Refusal::InvalidJournal);
     }
@@ -173,9 +192,7 @@ fn preview_operation(image: &[u8], rec: &[u8], events: &mut [u8]) -> Answer
 fn answer_preview(image: &[u8], rec: &[u8], events: &mut [u8]) -> Answer
     ensures { Answers (preview_answer image.now rec.now events.old) result events.new }
 {
-    if !image::good_image(image) {
-        return Err(Refusal::InvalidImage);
-    }
+    image_check(image::good_image(image))?;
     call_check(rec, events)?;
     let o = record::operation(rec);
     if record::is_view(o) {

@@ -3,9 +3,9 @@ use Rattle.journal.specs.Calls.{operation}
 use Rattle.storage.specs.Facts.{facts}
 use Rattle.token_vault.proofs.Called.{view_decided, stops, replies, good_state, bad_state, bad_call, viewed, operated_is}
 use Rattle.token_vault.proofs.Accepted.{call_long}
-use Rattle.refusal.specs.Laws.{some_number, code_passed}
+use Rattle.refusal.specs.Laws.{some_number}
 use Rattle.outcome.specs.Outcome.{silent}
-use mathlib.Core.Path.{refl, sym, ap, ◌∙◌}
+use mathlib.Core.Path.{refl, sym}
 use Rattle.token_vault.proofs.answer_call.Goals as goal
 
 pub returns-in_err-state_check : goal.returns-in_err-state_check

@@ -1,8 +1,7 @@
 -- `token_vault::call_check` meets its contract.
 use Rattle.token_vault.proofs.Called.{form_refused, buffer_decides}
 use Rattle.refusal.specs.Laws.{some_number, code_passed}
-use Rattle.outcome.specs.Outcome.{silent}
-use mathlib.Core.Path.{refl, sym, ap, ◌∙◌}
+use mathlib.Core.Path.{refl, ◌∙◌}
 use Rattle.token_vault.proofs.call_check.Goals as goal
 
 pub returns-in_err-form_check : goal.returns-in_err-form_check

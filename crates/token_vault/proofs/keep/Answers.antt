@@ -1,8 +1,7 @@
 -- `token_vault::keep` meets its contract.
 use Rattle.token_vault.proofs.Called.{keeps}
 use Rattle.refusal.specs.Laws.{some_number, code_passed}
-use Rattle.outcome.specs.Outcome.{silent}
-use mathlib.Core.Path.{refl, sym, ap, ◌∙◌}
+use mathlib.Core.Path.{refl}
 use Rattle.token_vault.proofs.keep.Goals as goal
 
 pub returns-in_err-enter_changes : goal.returns-in_err-enter_changes

@@ -4,16 +4,21 @@ use Rattle.token_vault.specs.Vault.{op}
 use Rattle.journal.proofs.Dispatch.{operated-refused}
 use Rattle.journal.specs.Step.{vault, blank}
 use Rattle.image.specs.Layout.{cells}
-use Rattle.refusal.specs.Laws.{some_number, code_passed}
-use Rattle.outcome.specs.Outcome.{silent}
-use mathlib.Core.Path.{refl, sym, ap, ◌∙◌}
+use Rattle.refusal.specs.Laws.{some_number}
+use mathlib.Core.Path.{refl, sym, ◌∙◌}
+use Rattle.std.proofs.lemmas.Result.{err_from_is_err_and}
 use Rattle.token_vault.proofs.run_operation.Goals as goal
 
-pub try_operation-done-requires : goal.try_operation-done-requires
-try_operation-done-requires c = (rw c.copy_bytes.ensures c.requires.0, c.requires.2, c.requires.3, c.requires.4, c.requires.5)
+pub try_operation-requires : goal.try_operation-requires
+try_operation-requires c = (rw c.copy_bytes.ensures c.requires.0, c.requires.2, c.requires.3, c.requires.4, c.requires.5)
 
 pub returns-in_err-done : goal.returns-in_err-done
-returns-in_err-done c = ?
+returns-in_err-done c =
+    let x = c.args in
+    let t = rw c.copy_bytes.ensures at c.in_err-done.ensures in
+    let p = err_from_is_err_and c.from_residual.result c.from_residual.ensures.1 in
+    rw (p.1, p.2)
+    (replies (operated-refused cells (vault x.image.now x.journal.now) (op x.image.now x.rec.now x.events.now) _ (λ z. some_number _ (t.answered.numbered ∙ z))) t.answered)
 
 pub returns-in-Err : goal.returns-in-Err
 returns-in-Err c =

@@ -3,8 +3,7 @@ use Rattle.image.specs.Layout.{cells}
 use Rattle.journal.specs.Calls.{Call}
 use Rattle.token_vault.proofs.Called.{good_state, journal_refused, journal_step, vault_begin}
 use Rattle.refusal.specs.Laws.{some_number, code_passed}
-use Rattle.outcome.specs.Outcome.{silent}
-use mathlib.Core.Path.{refl, sym, ap, ◌∙◌}
+use mathlib.Core.Path.{refl}
 use Rattle.token_vault.proofs.try_begin.Goals as goal
 
 pub returns-in_err-state_check : goal.returns-in_err-state_check

@@ -3,8 +3,7 @@ use Rattle.storage.specs.Facts.{facts}
 use Rattle.journal.specs.Calls.{Call}
 use Rattle.token_vault.proofs.Called.{good_state, journal_refused, journal_step, vault_undo}
 use Rattle.refusal.specs.Laws.{some_number, code_passed}
-use Rattle.outcome.specs.Outcome.{silent}
-use mathlib.Core.Path.{refl, sym, ap, ◌∙◌}
+use mathlib.Core.Path.{refl}
 use Rattle.token_vault.proofs.try_undo.Goals as goal
 
 pub returns-in_err-state_check : goal.returns-in_err-state_check
