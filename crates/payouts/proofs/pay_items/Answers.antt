@@ -1,5 +1,5 @@
 -- `payouts::pay_items` meets its contract.
-use Rattle.payouts.proofs.Loops.{pay_start, pay_end, payee, amount, pay_stop, pay_turn}
+use Rattle.payouts.proofs.Loops.{pay_end, payee, amount, pay_stop, pay_turn}
 use Rattle.payouts.proofs.Steps.{passed_pays}
 use Rattle.refusal.specs.Laws.{some_number}
 use mathlib.Core.Path.{refl}
@@ -7,9 +7,6 @@ use native.Mathlib.Omega.{arith}
 use Prim.Native.Nat.{◌+◌, ◌-◌}
 use borrow.Author.Rules.{rules}
 use Rattle.payouts.proofs.pay_items.Goals as goal
-
-pub loop-i-init : goal.loop-i-init
-loop-i-init c = let n = c.args.count in (search rules, search rules, pay_start _ _ _ _ n (n - 0) _ _ _ (omega arith) c.requires.0 c.requires.1 c.requires.7)
 
 pub pay-requires : goal.pay-requires
 pay-requires c = let s = c.args in let l = c.loop-i in let n = s.count - l.i in let o = s.count - (l.i + 1) in (l.invariant.2.good, search rules, omega arith, search rules, search rules, payee n l.i s.rec.now l.invariant.2 o (l.i + 1) (omega arith) (omega arith) c.item_address-to.ensures, amount n l.i s.rec.now l.invariant.2 o (l.i + 1) (omega arith) (omega arith) c.item_amount-n.ensures)

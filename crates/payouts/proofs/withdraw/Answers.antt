@@ -8,6 +8,3 @@ use Rattle.payouts.proofs.withdraw.Goals as goal
 pub withdraw_of-requires : goal.withdraw_of-requires
 unfolding reads_caller reads_other member
 withdraw_of-requires c = let f = c.requires.1 in (c.requires.0, omega (arith, caller_in f refl), omega (arith, other_in f refl), c.requires.2)
-
-pub returns : goal.returns
-returns c = rw (c.caller-caller.ensures, c.signers-signers.ensures, c.sequence-sequence.ensures, c.other-to.ensures, c.amount.ensures) at c.withdraw_of.ensures

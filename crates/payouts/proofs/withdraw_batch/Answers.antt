@@ -10,6 +10,3 @@ use Rattle.payouts.proofs.withdraw_batch.Goals as goal
 pub withdraw_batch_of-requires : goal.withdraw_batch_of-requires
 unfolding reads_caller reads_items member
 withdraw_batch_of-requires c = let f = c.requires.1 in record { good = (c.requires.0, search rules, omega (arith, count_in f refl), omega (arith, caller_in f refl), c.requires.2); addressed = rw c.item_count-count.ensures (batch_addressed f) }
-
-pub returns : goal.returns
-returns c = rw (c.item_count-count.ensures, c.caller-caller.ensures, c.signers-signers.ensures, c.sequence.ensures) at c.withdraw_batch_of.ensures

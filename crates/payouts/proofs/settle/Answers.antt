@@ -1,5 +1,0 @@
--- `payouts::settle` meets its contract.
-use Rattle.payouts.proofs.settle.Goals as goal
-
-pub returns : goal.returns
-returns c = record { img_after = rw (c.record_vault_balance.ensures, c.take_credit.ensures, c.balance-held.ensures); events_after = rw (c.put_event.ensures, c.balance-held.ensures) }
