@@ -54,9 +54,6 @@ pub record Paying (t seq caller by : ℕ) (ps : List Payout) (l e : List ℕ) (i
   pub changed : payouts_image ps t seq l ≡ payouts_image qs t seq m
   pub written : put_events e 0 (payouts_events ps t seq caller by l) ≡ put_events v i (payouts_events qs t seq caller by m)
 
-pub pay_start : (t seq caller by c n : ℕ) (r l e : List ℕ) → n ≡ c → Good l → initialised l ≡ 1 → Payable (items c 0 r) → Paying t seq caller by (items c 0 r) l e 0 (items n 0 r) l e
-pay_start t seq caller by c n r l e q g b a = rw q (record { good = g; begun = b; payable = a; numbered = refl; changed = refl; written = refl })
-
 module _ {t seq caller by : ℕ} {ps : List Payout} {l e : List ℕ} (n i : ℕ) (r : List ℕ) {m v : List ℕ} (w : Paying t seq caller by ps l e i (items n i r) m v) where
   pub pay_end : n ≡ 0 → Pays ps t seq caller by l e 0 0 m v
   unfolding payouts_number payouts_image payouts_events put_events
