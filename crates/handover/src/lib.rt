@@ -127,7 +127,13 @@ fn accept_owner_of(img: &mut [u8], events: &mut [u8], caller: u8, signers: u64, 
     let proposer = fields::get8(img, 6);
     clear_pending(img);
     fields::put8(img, 2, caller);
-    Ok(outcome::announce(events, Event::OwnerAccepted { caller, old_owner: proposer }))
+    Ok(outcome::announce(
+        events,
+        Event::OwnerAccepted {
+            caller,
+            old_owner: proposer,
+        },
+    ))
 }
 
 pub fn accept_owner(img: &mut [u8], rec: &[u8], events: &mut [u8]) -> Answer
@@ -171,7 +177,14 @@ fn set_owner_proposal_ttl_of(
     proposal_ttl_check(img, caller, signers, ttl)?;
     let old = fields::get64(img, 48);
     fields::put64(img, 48, ttl);
-    Ok(outcome::announce(events, Event::OwnerProposalTtlSet { caller, old_ttl: old, new_ttl: ttl }))
+    Ok(outcome::announce(
+        events,
+        Event::OwnerProposalTtlSet {
+            caller,
+            old_ttl: old,
+            new_ttl: ttl,
+        },
+    ))
 }
 
 pub fn set_owner_proposal_ttl(img: &mut [u8], rec: &[u8], events: &mut [u8]) -> Answer

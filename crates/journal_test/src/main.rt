@@ -157,7 +157,18 @@ fn damage(rt: &impl Print, at: usize, x: u8) -> io::Result<()> {
 }
 
 fn damaged_heads(rt: &impl Print) -> io::Result<()> {
-    let places = [(0, 2), (0, 0), (1, 1), (2, 0), (2, 2), (3, 4), (4, 1), (4, 6), (6, 1), (23, 1)];
+    let places = [
+        (0, 2),
+        (0, 0),
+        (1, 1),
+        (2, 0),
+        (2, 2),
+        (3, 4),
+        (4, 1),
+        (4, 6),
+        (6, 1),
+        (23, 1),
+    ];
     for (at, x) in places {
         damage(rt, at, x)?;
     }
@@ -165,7 +176,18 @@ fn damaged_heads(rt: &impl Print) -> io::Result<()> {
 }
 
 fn damaged_entries(rt: &impl Print) -> io::Result<()> {
-    let places = [(24, 1), (24, 3), (48, 4), (26, 0), (26, 2), (50, 2), (28, 1), (32, 9), (72, 1), (143, 1)];
+    let places = [
+        (24, 1),
+        (24, 3),
+        (48, 4),
+        (26, 0),
+        (26, 2),
+        (50, 2),
+        (28, 1),
+        (32, 9),
+        (72, 1),
+        (143, 1),
+    ];
     for (at, x) in places {
         damage(rt, at, x)?;
     }

@@ -61,7 +61,11 @@ fn initiate_emergency_migration_of(
     fields::put64(img, 64, executable_at);
     Ok(outcome::announce(
         events,
-        Event::EmergencyMigrationInitiated { caller, destination: to, executable_at },
+        Event::EmergencyMigrationInitiated {
+            caller,
+            destination: to,
+            executable_at,
+        },
     ))
 }
 
@@ -148,7 +152,11 @@ fn execute_emergency_migration_of(
     clear_migration(img);
     Ok(outcome::announce_value(
         events,
-        Event::EmergencyMigrationExecuted { caller, destination: to, amount: held },
+        Event::EmergencyMigrationExecuted {
+            caller,
+            destination: to,
+            amount: held,
+        },
         held,
     ))
 }

@@ -40,7 +40,14 @@ fn set_operator_withdraw_limit_of(
     let old = amount::read_amount(img, 24);
     storage::set_flag(img, Flag::OperatorLimit);
     amount::write_amount(img, 24, n);
-    Ok(outcome::announce(events, Event::OperatorWithdrawLimitSet { caller, old_limit: old, new_limit: n }))
+    Ok(outcome::announce(
+        events,
+        Event::OperatorWithdrawLimitSet {
+            caller,
+            old_limit: old,
+            new_limit: n,
+        },
+    ))
 }
 
 pub fn set_operator_withdraw_limit(img: &mut [u8], rec: &[u8], events: &mut [u8]) -> Answer
@@ -94,7 +101,14 @@ fn set_limit_of(img: &mut [u8], events: &mut [u8], caller: u8, signers: u64, n: 
     limit_check(img, caller, signers, n)?;
     let old = amount::read_amount(img, 8);
     amount::write_amount(img, 8, n);
-    Ok(outcome::announce(events, Event::LimitSet { caller, old_limit: old, new_limit: n }))
+    Ok(outcome::announce(
+        events,
+        Event::LimitSet {
+            caller,
+            old_limit: old,
+            new_limit: n,
+        },
+    ))
 }
 
 pub fn set_limit(img: &mut [u8], rec: &[u8], events: &mut [u8]) -> Answer
@@ -210,7 +224,13 @@ fn pause_of(img: &mut [u8], events: &mut [u8], caller: u8, signers: u64, time: u
 {
     pause_check(img, caller, signers)?;
     storage::set_flag(img, Flag::Paused);
-    Ok(outcome::announce(events, Event::Paused { caller, paused_at: time }))
+    Ok(outcome::announce(
+        events,
+        Event::Paused {
+            caller,
+            paused_at: time,
+        },
+    ))
 }
 
 pub fn pause(img: &mut [u8], rec: &[u8], events: &mut [u8]) -> Answer
@@ -247,7 +267,13 @@ fn unpause_of(img: &mut [u8], events: &mut [u8], caller: u8, signers: u64, time:
 {
     unpause_check(img, caller, signers)?;
     storage::clear_flag(img, Flag::Paused);
-    Ok(outcome::announce(events, Event::Unpaused { caller, resumed_at: time }))
+    Ok(outcome::announce(
+        events,
+        Event::Unpaused {
+            caller,
+            resumed_at: time,
+        },
+    ))
 }
 
 pub fn unpause(img: &mut [u8], rec: &[u8], events: &mut [u8]) -> Answer

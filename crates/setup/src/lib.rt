@@ -73,7 +73,13 @@ fn approve_token_of(
     approve_check(img, caller, signers, t, on)?;
     let set = approved_set(img, t, on);
     fields::put64(img, 72, set);
-    Ok(outcome::announce(events, Event::TokenApprovalChanged { token: t, approved: on == 1 }))
+    Ok(outcome::announce(
+        events,
+        Event::TokenApprovalChanged {
+            token: t,
+            approved: on == 1,
+        },
+    ))
 }
 
 pub fn approve_token(img: &mut [u8], rec: &[u8], events: &mut [u8]) -> Answer
@@ -133,7 +139,14 @@ fn initialize_of(
 {
     initialize_check(img, caller, signers, t, n)?;
     initialize_image(img, caller, t, n);
-    Ok(outcome::announce(events, Event::Initialized { owner: caller, token: t, max_limit: n }))
+    Ok(outcome::announce(
+        events,
+        Event::Initialized {
+            owner: caller,
+            token: t,
+            max_limit: n,
+        },
+    ))
 }
 
 pub fn initialize(img: &mut [u8], rec: &[u8], events: &mut [u8]) -> Answer

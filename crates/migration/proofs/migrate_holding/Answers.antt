@@ -8,7 +8,7 @@ use native.Mathlib.Omega.{arith}
 use Rattle.migration.proofs.migrate_holding.Goals as goal
 
 pub returns-then-not-is_positive : goal.returns-then-not-is_positive
-returns-then-not-is_positive c = let h = ltb-false bias (biased c.args.held) (sym c.is_positive.ensures ∙ c.if-not-is_positive.true) in 
+returns-then-not-is_positive c = let h = ltb-false bias (biased c.args.held) (sym c.is_positive.ensures ∙ c.if-not-is_positive.true) in
     let h = none-held c.args.img.now c.requires.2 (omega arith) in
     record { value = h.0; img_after = h.1 refl }
 
@@ -16,7 +16,7 @@ pub transfer-requires : goal.transfer-requires
 transfer-requires c = let h = ltb-true bias (biased c.args.held) (sym c.is_positive.ensures ∙ c.if-not-is_positive.false) in (c.requires.0, omega arith, omega (arith, (c.requires.0.fields c.requires.1).destination), omega arith)
 
 pub returns : goal.returns
-returns c = let h = ltb-true bias (biased c.args.held) (sym c.is_positive.ensures ∙ c.if-not-is_positive.false) in 
+returns c = let h = ltb-true bias (biased c.args.held) (sym c.is_positive.ensures ∙ c.if-not-is_positive.false) in
     let t = c.transfer.ensures in
     let h = all_moved c.args.img.now c.requires.2 (omega arith) c.get8-t.ensures c.get8-to.ensures (t.value, t.img_after) in
     record { value = h.0; img_after = on_ok _ h.1 }
