@@ -9,7 +9,7 @@ ghost use Rattle.token_vault.specs.Preview.{request_step};
 ghost use Rattle.vault_vectors.specs.Vectors.{PrintsStep, step_line, text_of};
 ghost use Rattle.token_vault_vectors.specs.Faults.{head_fault, state_fault, has_needless, call_head_fault, record_fault, call_fault, fault_text, fault_line};
 ghost use Rattle.token_vault_vectors.specs.Numbers.{number_of, number_or_zero, code};
-ghost use Rattle.token_vault_vectors.specs.Replay.{request_of, AnswersCall, TakesCalls, TakesState, RunsList, TakesList, WithJournal, NextList, IsFault, ListsEnd};
+ghost use Rattle.token_vault_vectors.specs.Replay.{IsStepLine, request_of, AnswersCall, TakesCalls, TakesState, RunsList, TakesList, WithJournal, NextList, IsFault, ListsEnd};
 
 use std::io::{Read, Write};
 use std::{fmt, io};
@@ -78,6 +78,13 @@ fn answer_call(
 }
 
 // Every byte of standard output goes through here, and all of them are lines of steps.
+fn write_step_line<O: Write>(output: &mut O, line: &StepLine) -> io::Result<()>
+    requires { IsStepLine (text_of line.now ++ (10 ∷ [])) }
+    ensures { OnOk result (Appends (O.contents output.old) (O.contents output.new) (text_of line.now ++ (10 ∷ []))) }
+{
+    streams::print_line::<512, _, _>(output, line)
+}
+
 fn run_call<O: Write>(
     output: &mut O,
     image: &mut [u8],
@@ -91,7 +98,7 @@ fn run_call<O: Write>(
     ensures printed { OnOk result (Appends (O.contents output.old) (O.contents output.new) (step_line (request_step (vault image.old journal.old) (request_of head.now «record».now)))) }
 {
     let line = answer_call(image, journal, head, record, events);
-    streams::print_line::<512, _, _>(output, &line)
+    write_step_line(output, &line)
 }
 
 // How many bytes were read of the head of a call, and of its record.

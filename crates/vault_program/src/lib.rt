@@ -4,7 +4,7 @@
 ghost use Rattle.std.specs.Prelude.{◌≡◌, ◌≤◌, length, take, [], OnOk, is_ok};
 ghost use Rattle.std.specs.Io.KnownBytes.{Consumes, Appends};
 ghost use Rattle.amount.specs.Value.{value};
-ghost use Rattle.vault_program.specs.Program.{signed_at, answer_line, text_of, record_step, Prints};
+ghost use Rattle.vault_program.specs.Program.{signed_at, answer_line, text_of, record_step, IsLine, Prints};
 ghost use Rattle.vault_program.specs.Records.{read_text, AnswersRead, TakesRecords, TakesImage, Runs};
 
 use amount::Amount;
@@ -40,12 +40,19 @@ pub fn answer_record(image: &mut [u8], record: &[u8]) -> Answer
 }
 
 // Every byte of the output goes through here, and all of them are lines of answers.
+fn write_answer_line<O: Write>(output: &mut O, answer: &Answer) -> io::Result<()>
+    requires { IsLine (text_of answer.now) }
+    ensures { OnOk result (Appends (O.contents output.old) (O.contents output.new) (text_of answer.now)) }
+{
+    streams::print_line::<160, _, _>(output, answer)
+}
+
 fn print_answer<O: Write>(output: &mut O, image: &mut [u8], record: &[u8]) -> io::Result<()>
     ensures carried { image.new ≡ (record_step image.old «record».now).state.image }
     ensures printed { OnOk result (Appends (O.contents output.old) (O.contents output.new) (answer_line (record_step image.old «record».now).answer)) }
 {
     let answer = answer_record(image, record);
-    streams::print_line::<160, _, _>(output, &answer)
+    write_answer_line(output, &answer)
 }
 
 // Answers a record of which `read` bytes were read. Where none was there is no line.
