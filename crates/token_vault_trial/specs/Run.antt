@@ -1,5 +1,6 @@
 -- What the program does: the arguments as it has read them, its faults by their numbers, and the records that are asked for.
-use Rattle.std.specs.Prelude.{◌≡◌, ℕ, ◌+◌, ◌^◌, ◌≤◌, Option, Some, None, Result, Ok, Err}
+use Rattle.std.specs.Prelude.{◌≡◌, List, ℕ, ◌+◌, ◌^◌, ◌<◌, ◌≤◌, Option, Some, None, Result, Ok, Err, IfOk}
+use Rattle.trial_records.specs.Trial.{records_from, reached_from}
 use Rattle.token_vault_trial.specs.Arguments.{Reading, malformed, number}
 use Rattle.token_vault_trial.specs.declared.Records.{Records}
 use Rattle.token_vault_trial.specs.declared.Fault.{Fault}
@@ -34,3 +35,12 @@ pub record IsOrder (start first count : ℕ) (r : Records) : Type 0 where
   pub left : r.left ≡ count
   pub positive : 1 ≤ r.next
   pub within : r.next + r.left ≤ 2 ^ 32
+
+-- l is the n records that follow the first `made` of those that the numbers `start` and `first` give
+abbrev pub IsPiece : (start first made n : ℕ) → (l : List ℕ) → Type 0
+IsPiece start first made n l = l ≡ records_from (reached_from start made) (first + made) n
+
+-- a run whose arguments have the fault f, and the number of records that it made: none, or all, unless a write failed
+pub record RunIs {E : Type 0} (f count : ℕ) (result : Result ℕ E) : Type 0 where
+  pub none_made : 0 < f → IfOk result (λ made. made ≡ 0)
+  pub all_made : f ≡ 0 → IfOk result (λ made. made ≡ count)

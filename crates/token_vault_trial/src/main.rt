@@ -4,9 +4,9 @@
 
 ghost use Rattle.std.specs.Prelude.{◌≡◌, ◌++◌, ◌+◌, ◌^◌, ◌<◌, ◌≤◌, length, Some, IfOk, OnOk, IsSome, is_some};
 ghost use Rattle.std.specs.Io.KnownBytes.{Appends};
-ghost use Rattle.trial_records.specs.Trial.{records_from};
+ghost use Rattle.trial_records.specs.Trial.{records_from, reached_from};
 ghost use Rattle.token_vault_trial.specs.Arguments.{digits_after, read_decimal, argument_fault, fault_text, fault_line};
-ghost use Rattle.token_vault_trial.specs.Run.{reading_of, number_or_zero, number_of, code, IsOrder};
+ghost use Rattle.token_vault_trial.specs.Run.{reading_of, number_or_zero, number_of, code, IsOrder, IsPiece, RunIs};
 
 use std::env::FillError;
 use std::io::Write;
@@ -121,13 +121,12 @@ fn records_asked(
 }
 
 impl Records {
-    // Makes the next records, as many as the buffer has room for.
-    fn next_piece<'a>(&mut self, buffer: &'a mut [u8; 57344]) -> &'a [u8]
-        requires { (0 < self.old.left) × (1 ≤ self.old.next) × (self.old.next + self.old.left ≤ 2 ^ 32) }
-        ensures piece { records_from self.old.last self.old.next self.old.left ≡ result.now ++ records_from self.new.last self.new.next self.new.left }
-        ensures rest { (self.new.left < self.old.left) × (self.new.next + self.new.left ≡ self.old.next + self.old.left) }
+    // Makes the next n records.
+    fn next_piece<'a>(&mut self, n: u64, buffer: &'a mut [u8; 57344]) -> &'a [u8]
+        requires { (n ≤ 128) × (n ≤ self.old.left) × (1 ≤ self.old.next) × (self.old.next + self.old.left ≤ 2 ^ 32) }
+        ensures piece { result.now ≡ records_from self.old.last self.old.next n }
+        ensures rest { (self.new.last ≡ reached_from self.old.last n) × (self.new.next ≡ self.old.next + n) × (self.new.left + n ≡ self.old.left) }
     {
-        let n = self.left.min(128);
         let piece = &mut buffer[..448 * n as usize];
         let reached = trial_records::trial_records(self.last, self.next, piece).unwrap();
         self.last = reached;
@@ -137,16 +136,36 @@ impl Records {
     }
 }
 
-fn write_records<O: Write>(output: &mut O, mut records: Records) -> io::Result<()>
-    requires { (1 ≤ records.next) × (records.next + records.left ≤ 2 ^ 32) }
-    ensures { OnOk result (Appends (O.contents output.old) (O.contents output.new) (records_from records.last records.next records.left)) }
+// Every byte of standard output goes through here: the n records that follow the first `made` of those that were asked for.
+fn write_piece<O: Write>(
+    output: &mut O,
+    piece: &[u8],
+    asked: Records,
+    made: u64,
+    n: u64,
+) -> io::Result<()>
+    requires { IsPiece asked.last asked.next made n piece.now }
+    ensures { OnOk result (Appends (O.contents output.old) (O.contents output.new) piece.now) }
+{
+    output.write_all(piece)
+}
+
+// Returns how many records were made.
+fn write_records<O: Write>(output: &mut O, asked: Records) -> io::Result<u64>
+    requires { (1 ≤ asked.next) × (asked.next + asked.left ≤ 2 ^ 32) }
+    ensures made { IfOk result (λ made. made ≡ asked.left) }
+    ensures written { OnOk result (Appends (O.contents output.old) (O.contents output.new) (records_from asked.last asked.next asked.left)) }
 {
     let mut buffer = [0u8; 57344];
-    while records.left > 0 {
-        let piece = records.next_piece(&mut buffer);
-        output.write_all(piece)?;
+    let mut rest = asked;
+    let mut made = 0u64;
+    while rest.left > 0 {
+        let n = rest.left.min(128);
+        let piece = rest.next_piece(n, &mut buffer);
+        write_piece(output, piece, asked, made, n)?;
+        made += n;
     }
-    Ok(())
+    Ok(made)
 }
 
 fn run<O: Write, E: Write>(
@@ -156,7 +175,8 @@ fn run<O: Write, E: Write>(
     start: Option<u64>,
     first: Option<u64>,
     count: Option<u64>,
-) -> io::Result<()>
+) -> io::Result<u64>
+    ensures ended { RunIs (argument_fault words (is_some start) (is_some first) (is_some count) (number_or_zero first) (number_or_zero count)) (number_or_zero count) result }
     ensures written { let fault = argument_fault words (is_some start) (is_some first) (is_some count) (number_or_zero first) (number_or_zero count) in fault ≡ 0 → OnOk result (Appends (O.contents output.old) (O.contents output.new) (records_from (number_or_zero start) (number_or_zero first) (number_or_zero count))) }
     ensures no_record { let fault = argument_fault words (is_some start) (is_some first) (is_some count) (number_or_zero first) (number_or_zero count) in 0 < fault → output.new ≡ output.old }
     ensures said { let fault = argument_fault words (is_some start) (is_some first) (is_some count) (number_or_zero first) (number_or_zero count) in 0 < fault → OnOk result (Appends (E.contents error.old) (E.contents error.new) (fault_line fault)) }
@@ -165,7 +185,8 @@ fn run<O: Write, E: Write>(
     match records_asked(words, start, first, count) {
         Ok(records) => write_records(output, records),
         Err(fault) => {
-            streams::print_line::<128, _, _>(error, &format_args!("token_vault_trial: {fault}"))
+            streams::print_line::<128, _, _>(error, &format_args!("token_vault_trial: {fault}"))?;
+            Ok(0)
         }
     }
 }

@@ -177,7 +177,8 @@ fn fit_call<O: Write>(
     events: &mut [u8],
 ) -> AnsweredCall
     requires { (read.record_read ≤ length «record».now) × (length events.old ≡ 1024) }
-    ensures { AnswersCall (vault image.old journal.old) result.read.head_read head.now result.read.record_read «record».now (number_or_zero result.fault) (step_line (request_step (vault image.old journal.old) (request_of head.now (take read.record_read «record».now)))) image.new journal.new × (result.read ≡ read) }
+    ensures answered { AnswersCall (vault image.old journal.old) result.read.head_read head.now result.read.record_read «record».now (number_or_zero result.fault) (step_line (request_step (vault image.old journal.old) (request_of head.now (take read.record_read «record».now)))) image.new journal.new × (result.read ≡ read) }
+    ensures printed { number_or_zero result.fault ≡ 0 → OnOk result.written (Appends (O.contents output.old) (O.contents output.new) (step_line (request_step (vault image.old journal.old) (request_of head.now (take read.record_read «record».now))))) }
 {
     match check_call(head, read) {
         Err(fault) => AnsweredCall {
@@ -226,7 +227,8 @@ fn next_call<I: Read, O: Write>(
     record: &mut [u8; 512],
     events: &mut [u8; 1024],
 ) -> AnsweredCall
-    ensures { AnswersCall (vault image.old journal.old) result.read.head_read head.new result.read.record_read «record».new (number_or_zero result.fault) (step_line (request_step (vault image.old journal.old) (request_of head.new (take result.read.record_read «record».new)))) image.new journal.new }
+    ensures answered { AnswersCall (vault image.old journal.old) result.read.head_read head.new result.read.record_read «record».new (number_or_zero result.fault) (step_line (request_step (vault image.old journal.old) (request_of head.new (take result.read.record_read «record».new)))) image.new journal.new }
+    ensures printed { number_or_zero result.fault ≡ 0 → OnOk result.written (Appends (O.contents output.old) (O.contents output.new) (step_line (request_step (vault image.old journal.old) (request_of head.new (take result.read.record_read «record».new))))) }
 {
     let read = read_call(input, head, record);
     fit_call(output, image, journal, head, record, read, events)

@@ -1,7 +1,7 @@
 // The program: an image and then records of 448 bytes from standard input, a line a record to standard output.
 #![tactic(auto)]
 
-ghost use Rattle.std.specs.Prelude.{◌≡◌, ◌≤◌, length, take, [], OnOk, is_ok};
+ghost use Rattle.std.specs.Prelude.{◌≡◌, ◌<◌, ◌≤◌, length, take, [], OnOk, is_ok};
 ghost use Rattle.std.specs.Io.KnownBytes.{Consumes, Appends};
 ghost use Rattle.amount.specs.Value.{value};
 ghost use Rattle.vault_program.specs.Program.{signed_at, answer_line, text_of, record_step, IsLine, Prints};
@@ -150,7 +150,8 @@ fn run_image<I: Read, O: Write>(
     image_read: usize,
 ) -> Run
     requires { (length image.old ≡ 36832) × (image_read ≤ 36832) }
-    ensures { TakesImage image.old result.image_read (answer_line (record_step (take image_read image.old) []).answer) image.new result.taken result.read (is_ok result.written) × (result.image_read ≡ image_read) }
+    ensures taken { TakesImage image.old result.image_read (answer_line (record_step (take image_read image.old) []).answer) image.new result.taken result.read (is_ok result.written) × (result.image_read ≡ image_read) }
+    ensures printed { image_read < 36832 → OnOk result.written (Appends (O.contents output.old) (O.contents output.new) (answer_line (record_step (take image_read image.old) []).answer)) }
 {
     if image_read < 36832 {
         let written = print_answer(output, &mut image[..image_read], &[]);

@@ -1,12 +1,11 @@
 -- What is wrong is said.
 use Rattle.std.proofs.Common.{ℕ, subst}
-use Rattle.std.specs.Result.{OnOk}
 use Rattle.std.specs.Io.KnownBytes.{Appends}
 use Rattle.token_vault_trial.specs.Arguments.{fault_line}
 use Rattle.token_vault_trial.proofs.run.Goals as goal
 
-pub returns-in-Err-clause-said : goal.returns-in-Err-clause-said
+pub returns-in_ok-print_line-in-Err-clause-said : goal.returns-in_ok-print_line-in-Err-clause-said
 unfolding fault_line
-returns-in-Err-clause-said g c = λ _.
-    subst (λ (n : ℕ). OnOk c.print_line.result (Appends (g.E.Write.contents c.args.error.now) (g.E.Write.contents c.print_line.new.writer) (fault_line n)))
-    c.in-Err.ensures.fault c.print_line.ensures
+returns-in_ok-print_line-in-Err-clause-said g c = λ _.
+    subst (λ (n : ℕ). Appends (g.E.Write.contents c.args.error.now) (g.E.Write.contents c.print_line.new.writer) (fault_line n))
+    c.in-Err.ensures.fault c.in_ok-print_line-in-Err.ensures

@@ -1,19 +1,24 @@
 -- A piece, and what is left after it.
-use Rattle.std.proofs.Common.{◌*◌, arith, length-take-le, ap}
+use Rattle.std.proofs.Common.{◌*◌, arith, length-take-le, ap, refl}
 use Rattle.trial_records.specs.Trial.{reached_or}
-use Rattle.token_vault_trial.proofs.Pieces.{piece_split, piece_done}
+use Rattle.token_vault_trial.proofs.Pieces.{piece_made, piece_reached, piece_done}
 use Rattle.token_vault_trial.proofs.Records.next_piece.Goals as goal
 
 pub unwrap-reached-requires : goal.unwrap-reached-requires
 unwrap-reached-requires c =
+    let (small, within, positive, end) = c.requires in
     let s = c.args.self.now in
-    let m = c.min-n.ensures in
-    piece_done s.last s.next s.left c.min-n.result _ _ c.trial_records.result _ (omega arith) c.requires.1 c.requires.2 (length-take-le (448 * c.min-n.result) _ (omega arith)) c.trial_records.ensures
+    piece_done s.last s.next c.args.n _ _ c.trial_records.result _ positive (omega arith) (length-take-le (448 * c.args.n) _ (omega arith)) c.trial_records.ensures
 
 pub returns-clause-piece : goal.returns-clause-piece
 returns-clause-piece c =
+    let (small, within, positive, end) = c.requires in
     let s = c.args.self.now in
-    let m = c.min-n.ensures in
+    piece_made s.last s.next c.args.n _ _ _ _ positive (omega arith) (length-take-le (448 * c.args.n) _ (omega arith)) c.trial_records.ensures
+
+pub returns-clause-rest : goal.returns-clause-rest
+returns-clause-rest c =
+    let (small, within, positive, end) = c.requires in
+    let s = c.args.self.now in
     let t = c.trial_records.ensures in
-    piece_split s.last s.next s.left c.min-n.result _ _ _ _ (omega arith) c.requires.1 c.requires.2 (length-take-le (448 * c.min-n.result) _ (omega arith))
-    (rw (ap (reached_or s.last) c.unwrap-reached.ensures) at t)
+    (piece_reached s.last s.next c.args.n _ _ _ _ positive (omega arith) (length-take-le (448 * c.args.n) _ (omega arith)) (rw (ap (reached_or s.last) c.unwrap-reached.ensures) at t), refl, omega arith)
