@@ -3,6 +3,7 @@
 
 ghost use Rattle.std.specs.Prelude.{◌≡◌};
 ghost use Rattle.refusal.specs.Numbers.{number_of};
+ghost use Rattle.refusal.specs.Distinct.{DistinctNumbers};
 
 #[derive(Clone, Copy, Debug, PartialEq, Eq, Hash)]
 pub enum Refusal {
@@ -79,4 +80,11 @@ impl From<Refusal> for u8 {
             Refusal::InvalidTollBounds => 46,
         }
     }
+}
+
+// The contract carries the theorem `DistinctNumbers`; the number is how many refusals there are.
+pub fn distinct_numbers() -> u32
+    ensures { DistinctNumbers }
+{
+    32
 }

@@ -1,0 +1,2 @@
+-- Lemmas.
+pub mod Distinct
