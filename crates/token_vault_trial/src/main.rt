@@ -4,6 +4,7 @@
 
 ghost use Rattle.std.specs.Prelude.{◌≡◌, ◌++◌, ◌+◌, ◌^◌, ◌<◌, ◌≤◌, length, Some, IfOk, OnOk, IsSome, is_some};
 ghost use Rattle.std.specs.Io.KnownBytes.{Appends};
+ghost use Rattle.std.specs.Fmt.{with_newline};
 ghost use Rattle.trial_records.specs.Trial.{records_from, reached_from};
 ghost use Rattle.token_vault_trial.specs.Arguments.{digits_after, read_decimal, argument_fault, fault_text, fault_line};
 ghost use Rattle.token_vault_trial.specs.Run.{reading_of, number_or_zero, number_of, code, IsOrder, IsPiece, RunIs};
@@ -168,6 +169,18 @@ fn write_records<O: Write>(output: &mut O, asked: Records) -> io::Result<u64>
     Ok(made)
 }
 
+// Every byte of standard error goes through here, and all of them are the line of a fault.
+fn write_fault_line<E: Write, D: fmt::Display>(
+    error: &mut E,
+    line: &D,
+    fault: Fault,
+) -> io::Result<()>
+    requires { with_newline (D.output line.now) ≡ Some (fault_line (number_of fault)) }
+    ensures { OnOk result (Appends (E.contents error.old) (E.contents error.new) (fault_line (number_of fault))) }
+{
+    streams::print_line::<128, _, _>(error, line)
+}
+
 fn run<O: Write, E: Write>(
     output: &mut O,
     error: &mut E,
@@ -185,7 +198,7 @@ fn run<O: Write, E: Write>(
     match records_asked(words, start, first, count) {
         Ok(records) => write_records(output, records),
         Err(fault) => {
-            streams::print_line::<128, _, _>(error, &format_args!("token_vault_trial: {fault}"))?;
+            write_fault_line(error, &format_args!("token_vault_trial: {fault}"), fault)?;
             Ok(0)
         }
     }

@@ -3,6 +3,7 @@
 
 ghost use Rattle.std.specs.Prelude.{◌≡◌, ◌≤◌, ◌++◌, [], ◌∷◌, length, take, Some, OnOk, is_ok};
 ghost use Rattle.std.specs.Io.KnownBytes.{Appends};
+ghost use Rattle.std.specs.Fmt.{with_newline};
 ghost use Rattle.fields.specs.Bytes.{le};
 ghost use Rattle.journal.specs.Step.{vault};
 ghost use Rattle.token_vault.specs.Preview.{request_step};
@@ -470,11 +471,22 @@ fn all_lists<I: Read, O: Write>(input: &mut I, output: &mut O) -> TakenLists
 }
 
 // Every byte of standard error goes through here, and all of them are the line of a fault that a list has.
+fn write_fault_line<E: Write, D: fmt::Display>(
+    error: &mut E,
+    line: &D,
+    fault: Fault,
+) -> io::Result<()>
+    requires { (with_newline (D.output line.now) ≡ Some (fault_line (number_of fault))) × IsFault (number_of fault) }
+    ensures { OnOk result (Appends (E.contents error.old) (E.contents error.new) (fault_line (number_of fault))) }
+{
+    streams::print_line::<128, _, _>(error, line)
+}
+
 fn write_fault<E: Write>(error: &mut E, fault: Fault) -> io::Result<()>
     requires { IsFault (number_of fault) }
     ensures { OnOk result (Appends (E.contents error.old) (E.contents error.new) (fault_line (number_of fault))) }
 {
-    streams::print_line::<128, _, _>(error, &format_args!("token_vault_vectors: {fault}"))
+    write_fault_line(error, &format_args!("token_vault_vectors: {fault}"), fault)
 }
 
 fn main(rt: HostRuntime) {
