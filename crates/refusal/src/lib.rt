@@ -1,8 +1,9 @@
-// The refusals of docs/FORMATS.md: an error enum, and the number of each.
+// The refusals of docs/FORMATS.md: an error enum, the number of each, and a check of one rule.
 #![tactic(auto)]
 
 ghost use Rattle.std.specs.Prelude.{◌≡◌};
-ghost use Rattle.refusal.specs.Numbers.{number_of};
+ghost use Rattle.fields.specs.Rules.{pick};
+ghost use Rattle.refusal.specs.Numbers.{number_of, code};
 ghost use Rattle.refusal.specs.Distinct.{DistinctNumbers};
 
 #[derive(Clone, Copy, Debug, PartialEq, Eq, Hash)]
@@ -80,6 +81,22 @@ impl From<Refusal> for u8 {
             Refusal::InvalidTollBounds => 46,
         }
     }
+}
+
+// The number of an answer: 0 where it is no refusal.
+pub fn number<T>(answer: &Result<T, Refusal>) -> u32
+    ensures { result ≡ code answer.now }
+{
+    match answer {
+        Ok(_) => 0,
+        Err(refusal) => u32::from(u8::from(*refusal)),
+    }
+}
+
+pub fn refuse_if(holds: bool, refusal: Refusal) -> Result<(), Refusal>
+    ensures { code result ≡ pick holds (number_of refusal) 0 }
+{
+    if holds { Err(refusal) } else { Ok(()) }
 }
 
 // The contract carries the theorem `DistinctNumbers`; the number is how many refusals there are.
