@@ -29,17 +29,60 @@ ghost use Rattle.image.specs.Good.{
 
 pub use flag::Flag;
 
-fn below(a: u64, b: u64) -> bool
-    ensures { result ≡ ltb a b }
-{
-    a < b
-}
+// The bytes of an image: docs/FORMATS.md, "The image".
+pub const LENGTH: usize = 36832;
 
-fn same(a: u64, b: u64) -> bool
-    ensures { result ≡ eqb a b }
-{
-    a == b
-}
+pub type Image = [u8; LENGTH];
+
+// The places of its fields.
+pub const FLAGS: usize = 0;
+
+pub const OWNER: usize = 2;
+
+pub const DEFAULT_TOKEN: usize = 3;
+
+pub const OPERATOR: usize = 4;
+
+pub const PENDING_OWNER: usize = 5;
+
+pub const PROPOSER: usize = 6;
+
+pub const DESTINATION: usize = 7;
+
+pub const VAULT_LIMIT: usize = 8;
+
+pub const OPERATOR_LIMIT: usize = 24;
+
+pub const PROPOSED_AT: usize = 40;
+
+pub const TIME_TO_LIVE: usize = 48;
+
+pub const MIGRATION_PROPOSED_AT: usize = 56;
+
+pub const EXECUTABLE_AT: usize = 64;
+
+pub const APPROVED_SET: usize = 72;
+
+pub const CAPPED_SET: usize = 80;
+
+pub const TRACKED_COUNT: usize = 88;
+
+// The places of the first of 64 caps, 16 snapshots, 1,088 tracked keys, 16 tokens and their tolls, 1,024 holdings and 1,024 credits.
+pub const CAPS: usize = 96;
+
+pub const SNAPSHOTS: usize = 1120;
+
+pub const TRACKED_KEYS: usize = 1504;
+
+pub const TOKENS: usize = 3680;
+
+pub const TOLLS: usize = 3688;
+pub const HOLDINGS: usize = 4064;
+
+pub const CREDITS: usize = 20448;
+
+// The address of the first token.
+pub const FIRST_TOKEN: usize = 48;
 
 fn bit_of(x: u64, k: u64) -> bool
     requires { k < 64 }
@@ -115,74 +158,70 @@ pub fn not_negatives(s: &[u8], a: usize, n: usize) -> bool
     true
 }
 
-fn good_addresses(s: &[u8]) -> bool
-    requires { length s.now ≡ image_length }
+fn good_addresses(s: &Image) -> bool
     ensures { result ≡ good_addresses s.now }
 {
-    let a = address_at(s, 2);
-    let b = address_at(s, 3);
-    let c = address_at(s, 4);
-    let d = address_at(s, 5);
-    let e = address_at(s, 6);
-    let f = address_at(s, 7);
+    let a = address_at(s, OWNER);
+    let b = address_at(s, DEFAULT_TOKEN);
+    let c = address_at(s, OPERATOR);
+    let d = address_at(s, PENDING_OWNER);
+    let e = address_at(s, PROPOSER);
+    let f = address_at(s, DESTINATION);
     a & b & c & d & e & f
 }
 
-fn good_defaults(s: &[u8]) -> bool
-    requires { (length s.now ≡ image_length) × (le 1 s.now 3 < 64) }
+fn good_defaults(s: &Image) -> bool
+    requires { le 1 s.now 3 < 64 }
     ensures { result ≡ good_defaults s.now }
 {
-    let a = above_at(s, 8);
-    let b = below(0, fields::get64(s, 48));
-    let t = fields::get8(s, 3);
-    if t < 48 {
-        return a & b & false;
+    let t = usize::from(fields::get8(s, DEFAULT_TOKEN));
+    if t < FIRST_TOKEN {
+        return false;
     }
-    let k = 3680 + 24 * ((t - 48) as usize);
-    a & b & below(0, fields::get64(s, k))
+    let kind = fields::get64(s, TOKENS + 24 * (t - FIRST_TOKEN));
+    above_at(s, VAULT_LIMIT) & (fields::get64(s, TIME_TO_LIVE) > 0) & (kind > 0)
 }
 
-fn good_pending(s: &[u8], f: u64) -> bool
-    requires { (length s.now ≡ image_length) × (f ≡ le 2 s.now 0) }
+fn good_pending(s: &Image, f: u64) -> bool
+    requires { f ≡ le 2 s.now 0 }
     ensures { result ≡ good_pending s.now }
 {
-    let a = zero8_at(s, 5);
-    let b = zero8_at(s, 6);
-    let c = zero64_at(s, 40);
+    let a = zero8_at(s, PENDING_OWNER);
+    let b = zero8_at(s, PROPOSER);
+    let c = zero64_at(s, PROPOSED_AT);
     bit_of(f, 4) | (a & b & c)
 }
 
-fn good_migration(s: &[u8], f: u64) -> bool
-    requires { (length s.now ≡ image_length) × (f ≡ le 2 s.now 0) }
+fn good_migration(s: &Image, f: u64) -> bool
+    requires { f ≡ le 2 s.now 0 }
     ensures { result ≡ good_migration s.now }
 {
-    let a = zero8_at(s, 7);
-    let b = zero64_at(s, 56);
-    let c = zero64_at(s, 64);
+    let a = zero8_at(s, DESTINATION);
+    let b = zero64_at(s, MIGRATION_PROPOSED_AT);
+    let c = zero64_at(s, EXECUTABLE_AT);
     bit_of(f, 5) | (a & b & c)
 }
 
-fn good_options(s: &[u8], f: u64) -> bool
-    requires { (length s.now ≡ image_length) × (f ≡ le 2 s.now 0) }
+fn good_options(s: &Image, f: u64) -> bool
+    requires { f ≡ le 2 s.now 0 }
     ensures { result ≡ good_options s.now }
 {
-    let a = bit_of(f, 2) | zero8_at(s, 4);
-    let b = above_where(s, 24, f, 3);
+    let a = bit_of(f, 2) | zero8_at(s, OPERATOR);
+    let b = above_where(s, OPERATOR_LIMIT, f, 3);
     let c = good_pending(s, f);
     let d = good_migration(s, f);
     a & b & c & d
 }
 
-fn good_head(s: &[u8]) -> bool
-    requires { length s.now ≡ image_length }
+fn good_head(s: &Image) -> bool
     ensures { result ≡ good_head s.now }
 {
-    let f = fields::get16(s, 0) as u64;
+    let f = u64::from(fields::get16(s, FLAGS));
     if f >= 64 {
         return false;
     }
     if !bit_of(f, 0) {
-        return fields::are_zero(s, 0, 3680);
+        return fields::are_zero(s, 0, TOKENS);
     }
     if !good_addresses(s) {
         return false;
@@ -190,26 +229,25 @@ fn good_head(s: &[u8]) -> bool
     good_defaults(s) & good_options(s, f)
 }
 
-fn good_caps(s: &[u8]) -> bool
-    requires { length s.now ≡ image_length }
+fn good_caps(s: &Image) -> bool
     ensures { result ≡ all (good_cap s.now) 64 }
 {
-    let set = fields::get64(s, 80);
+    let set = fields::get64(s, CAPPED_SET);
     for a in 0..64 {
-        if !above_where(s, 96 + 16 * a, set, a as u64) {
+        if !above_where(s, CAPS + 16 * a, set, a as u64) {
             return false;
         }
     }
     true
 }
 
-fn fresh_keys(s: &[u8], n: usize) -> bool
-    requires { (length s.now ≡ image_length) × (n ≤ 1088) }
+fn fresh_keys(s: &Image, n: usize) -> bool
+    requires { n ≤ 1088 }
     ensures { result ≡ all (fresh_key s.now) n }
 {
     let mut seen = [0u8; 1088];
     for i in 0..n {
-        let k = fields::get16(s, 1504 + 2 * i) as usize;
+        let k = fields::get16(s, TRACKED_KEYS + 2 * i) as usize;
         if k >= 1088 {
             return false;
         }
@@ -221,66 +259,63 @@ fn fresh_keys(s: &[u8], n: usize) -> bool
     true
 }
 
-fn good_keys(s: &[u8]) -> bool
-    requires { length s.now ≡ image_length }
+fn good_keys(s: &Image) -> bool
     ensures { result ≡ good_keys s.now }
 {
-    let n = fields::get64(s, 88);
+    let n = fields::get64(s, TRACKED_COUNT);
     if n > 1088 {
         return false;
     }
     let m = n as usize;
-    fresh_keys(s, m) & fields::are_zero(s, 1504 + 2 * m, 2176 - 2 * m)
+    fresh_keys(s, m) & fields::are_zero(s, TRACKED_KEYS + 2 * m, 2176 - 2 * m)
 }
 
-fn good_snapshot(s: &[u8], t: usize) -> bool
-    requires { (length s.now ≡ image_length) × (t < 16) }
+fn good_snapshot(s: &Image, t: usize) -> bool
+    requires { t < 16 }
     ensures { result ≡ good_snapshot s.now t }
 {
-    let at = 1120 + 24 * t;
-    let p = fields::get32(s, at) as u64;
-    let q = fields::get32(s, at + 4) as u64;
-    let h = nothing_at(s, at + 8);
-    below(p, 2) & (same(p, 1) | (same(q, 0) & h))
+    let at = SNAPSHOTS + 24 * t;
+    let present = fields::get32(s, at);
+    let ledger = fields::get32(s, at + 4);
+    let nothing = nothing_at(s, at + 8);
+    (present < 2) & ((present == 1) | ((ledger == 0) & nothing))
 }
 
-fn good_absent(s: &[u8], t: usize) -> bool
-    requires { (length s.now ≡ image_length) × (t < 16) }
+fn good_absent(s: &Image, t: usize) -> bool
+    requires { t < 16 }
     ensures { result ≡ good_absent s.now t }
 {
-    let a = nothing_at(s, 3688 + 24 * t);
-    let p = fields::get32(s, 1120 + 24 * t) as u64;
-    let h = fields::are_zero(s, 4064 + 1024 * t, 1024);
-    let c = fields::are_zero(s, 20448 + 1024 * t, 1024);
-    a & same(p, 0) & h & c
+    let a = nothing_at(s, TOLLS + 24 * t);
+    let present = fields::get32(s, SNAPSHOTS + 24 * t);
+    let h = fields::are_zero(s, HOLDINGS + 1024 * t, 1024);
+    let c = fields::are_zero(s, CREDITS + 1024 * t, 1024);
+    a & (present == 0) & h & c
 }
 
-fn good_present(s: &[u8], t: usize) -> bool
-    requires { (length s.now ≡ image_length) × (t < 16) }
+fn good_present(s: &Image, t: usize) -> bool
+    requires { t < 16 }
     ensures { result ≡ good_present s.now t }
 {
-    let a = not_negative_at(s, 3688 + 24 * t);
-    let h = not_negatives(s, 4064 + 1024 * t, 64);
-    let c = not_negatives(s, 20448 + 1024 * t, 64);
+    let a = not_negative_at(s, TOLLS + 24 * t);
+    let h = not_negatives(s, HOLDINGS + 1024 * t, 64);
+    let c = not_negatives(s, CREDITS + 1024 * t, 64);
     a & h & c
 }
 
-fn good_token(s: &[u8], t: usize) -> bool
-    requires { (length s.now ≡ image_length) × (t < 16) }
+fn good_token(s: &Image, t: usize) -> bool
+    requires { t < 16 }
     ensures { result ≡ good_token s.now t }
 {
-    let k = fields::get64(s, 3680 + 24 * t);
-    let a = below(k, 3);
-    let b = good_snapshot(s, t);
+    let k = fields::get64(s, TOKENS + 24 * t);
+    let known = (k < 3) & good_snapshot(s, t);
     if k == 0 {
-        a & b & good_absent(s, t)
+        known & good_absent(s, t)
     } else {
-        a & b & good_present(s, t)
+        known & good_present(s, t)
     }
 }
 
-fn good_tokens(s: &[u8]) -> bool
-    requires { length s.now ≡ image_length }
+fn good_tokens(s: &Image) -> bool
     ensures { result ≡ all (good_token s.now) 16 }
 {
     for t in 0..16 {
@@ -292,12 +327,12 @@ fn good_tokens(s: &[u8]) -> bool
 }
 
 // Total: any slice.
-pub fn good_image(s: &[u8]) -> bool
-    ensures { result ≡ good_image s.now }
+pub fn good_image(bytes: &[u8]) -> bool
+    ensures { result ≡ good_image bytes.now }
 {
-    if s.len() != 36832 {
+    let Ok(s) = <&Image>::try_from(bytes) else {
         return false;
-    }
+    };
     let h = good_head(s);
     let c = good_caps(s);
     let k = good_keys(s);

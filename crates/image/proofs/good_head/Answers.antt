@@ -18,15 +18,15 @@ returns-then-f-ge64 c = let l = c.args.s.now in let h : 64 ≤ le 2 l 0 = omega 
 
 pub returns-then-not-bit_of : goal.returns-then-not-bit_of
 unfolding good_head
-returns-then-not-bit_of c = let l = c.args.s.now in let h : le 2 l 0 < 64 = omega arith in let o : eqb (le 2 l 0 / 2 ^ 0 % 2) 1 ≡ false = ap (λ (x : ℕ). eqb (x / 2 ^ 0 % 2) 1) (sym c.get16-f.ensures) ∙ (sym c.bit_of.ensures ∙ c.if-not-bit_of.true) in rw (lt-ltb (le 2 l 0) 64 h, true_and, o) c.are_zero.ensures
+returns-then-not-bit_of c = let l = c.args.s.now in let h : le 2 l 0 < 64 = omega arith in let o : eqb (le 2 l 0 / 2 ^ 0 % 2) 1 ≡ false = ap (λ (x : ℕ). eqb (x / 2 ^ 0 % 2) 1) (sym (c.from-f.ensures ∙ c.get16.ensures)) ∙ (sym c.bit_of.ensures ∙ c.if-not-bit_of.true) in rw (lt-ltb (le 2 l 0) 64 h, true_and, o) c.are_zero.ensures
 
 pub returns-then-not-good_addresses : goal.returns-then-not-good_addresses
 unfolding good_head
-returns-then-not-good_addresses c = let l = c.args.s.now in let g = c.good_addresses in let h : le 2 l 0 < 64 = omega arith in let o : eqb (le 2 l 0 / 2 ^ 0 % 2) 1 ≡ true = ap (λ (x : ℕ). eqb (x / 2 ^ 0 % 2) 1) (sym c.get16-f.ensures) ∙ (sym c.bit_of.ensures ∙ c.if-not-bit_of.false) in let a : good_addresses l ≡ false = sym g.ensures ∙ c.if-not-good_addresses.true in rw (lt-ltb (le 2 l 0) 64 h, true_and, o, a, false_and)
+returns-then-not-good_addresses c = let l = c.args.s.now in let g = c.good_addresses in let h : le 2 l 0 < 64 = omega arith in let o : eqb (le 2 l 0 / 2 ^ 0 % 2) 1 ≡ true = ap (λ (x : ℕ). eqb (x / 2 ^ 0 % 2) 1) (sym (c.from-f.ensures ∙ c.get16.ensures)) ∙ (sym c.bit_of.ensures ∙ c.if-not-bit_of.false) in let a : good_addresses l ≡ false = sym g.ensures ∙ c.if-not-good_addresses.true in rw (lt-ltb (le 2 l 0) 64 h, true_and, o, a, false_and)
 
 pub good_defaults-requires : goal.good_defaults-requires
-good_defaults-requires c = let g = c.good_addresses in (search rules, token_address c.args.s.now (sym g.ensures ∙ c.if-not-good_addresses.false))
+good_defaults-requires c = let g = c.good_addresses in token_address c.args.s.now (sym g.ensures ∙ c.if-not-good_addresses.false)
 
 pub returns : goal.returns
 unfolding good_head
-returns c = let l = c.args.s.now in let g = c.good_addresses in let h : le 2 l 0 < 64 = omega arith in let o : eqb (le 2 l 0 / 2 ^ 0 % 2) 1 ≡ true = ap (λ (x : ℕ). eqb (x / 2 ^ 0 % 2) 1) (sym c.get16-f.ensures) ∙ (sym c.bit_of.ensures ∙ c.if-not-bit_of.false) in let a : good_addresses l ≡ true = sym g.ensures ∙ c.if-not-good_addresses.false in rw (lt-ltb (le 2 l 0) 64 h, true_and, o, a, true_and) (simp and_is (cc))
+returns c = let l = c.args.s.now in let g = c.good_addresses in let h : le 2 l 0 < 64 = omega arith in let o : eqb (le 2 l 0 / 2 ^ 0 % 2) 1 ≡ true = ap (λ (x : ℕ). eqb (x / 2 ^ 0 % 2) 1) (sym (c.from-f.ensures ∙ c.get16.ensures)) ∙ (sym c.bit_of.ensures ∙ c.if-not-bit_of.false) in let a : good_addresses l ≡ true = sym g.ensures ∙ c.if-not-good_addresses.false in rw (lt-ltb (le 2 l 0) 64 h, true_and, o, a, true_and) (simp and_is (cc))

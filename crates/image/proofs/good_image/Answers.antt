@@ -1,5 +1,6 @@
 -- `image::good_image` meets its contract.
 use Prim.Native.Nat.{ℕ, ◌<◌}
+use mathlib.Core.Path.{sym}
 use native.Mathlib.Omega.{arith}
 use borrow.Author.Tests.{eq-eqb, ne_eqb}
 use lib.ListN.{length, get_or}
@@ -8,10 +9,14 @@ use Rattle.image.specs.Good.{good_image}
 use Rattle.fields.specs.Bytes.{bytes_from}
 use Rattle.image.proofs.good_image.Goals as goal
 
-pub returns-then-s-ne36832 : goal.returns-then-s-ne36832
+pub returns-in_default : goal.returns-in_default
 unfolding good_image
-returns-then-s-ne36832 c = rw (ne_eqb (length c.args.s.now) 36832 c.if-s-ne36832.true, false_and)
+returns-in_default c = rw (ne_eqb (length c.args.bytes.now) 36832 c.in_default.ensures.1, false_and)
 
 pub returns : goal.returns
 unfolding good_image
-returns c = let l = c.args.s.now in let h : (j : ℕ) → get_or l j 0 < 256 = λ j. omega (arith, c.type_inv.s j) in rw (eq-eqb (length l) 36832 c.if-s-ne36832.false, true_and, bytes_from l h, true_and) (simp (and_is, and_assoc) (cc))
+returns c =
+    let l = c.args.bytes.now in
+    let w = c.in-Ok.ensures.1 in
+    let h : (j : ℕ) → get_or l j 0 < 256 = λ j. omega (arith, c.type_inv.bytes j) in
+    rw (eq-eqb (length l) 36832 w.long, true_and, bytes_from l h, true_and, sym w.same) (simp (and_is, and_assoc) (cc))
