@@ -6,7 +6,7 @@ use borrow.Author.Rules.{rules}
 use Rattle.storage.proofs.set_token_account_balance.Goals as goal
 
 pub track_vault_key-requires : goal.track_vault_key-requires
-track_vault_key-requires c = (search rules, rw c.write_amount.ensures (credit_keys c.args.img.now c.args.t c.args.account _ (omega arith) (omega arith) c.requires.1), search rules)
+track_vault_key-requires c = (rw c.write_amount.ensures (credit_keys c.args.img.now c.args.t c.args.account _ (omega arith) (omega arith) c.requires.0), search rules)
 
 pub returns : goal.returns
 unfolding set_credit

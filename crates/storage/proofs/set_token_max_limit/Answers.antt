@@ -6,7 +6,7 @@ use borrow.Author.Rules.{rules}
 use Rattle.storage.proofs.set_token_max_limit.Goals as goal
 
 pub track_vault_key-requires : goal.track_vault_key-requires
-track_vault_key-requires c = (search rules, rw (c.write_amount.ensures, c.put64.ensures, c.with_bit.ensures, c.get64-set.ensures) (cap_keys c.args.img.now c.args.address _ (omega arith) c.requires.1), search rules)
+track_vault_key-requires c = (rw (c.write_amount.ensures, c.put64.ensures, c.with_bit.ensures, c.get64-set.ensures) (cap_keys c.args.img.now c.args.address _ (omega arith) c.requires.0), search rules)
 
 pub returns : goal.returns
 unfolding set_cap

@@ -8,7 +8,7 @@ pub returns-then-is_tracked : goal.returns-then-is_tracked
 returns-then-is_tracked c = sym (tracked_already c.args.img.now c.args.k (sym c.is_tracked.ensures ∙ c.if-is_tracked.true))
 
 pub put16-requires : goal.put16-requires
-put16-requires c = let m = key_room c.args.img.now c.args.k c.requires.1 c.requires.2 (sym c.is_tracked.ensures ∙ c.if-is_tracked.false) in omega arith
+put16-requires c = let m = key_room c.args.img.now c.args.k c.requires.0 c.requires.1 (sym c.is_tracked.ensures ∙ c.if-is_tracked.false) in omega arith
 
 pub returns : goal.returns
 returns c = rw (c.put64.ensures, c.put16.ensures, c.get64-n.ensures) (sym (tracked_anew c.args.img.now c.args.k (sym c.is_tracked.ensures ∙ c.if-is_tracked.false)))
