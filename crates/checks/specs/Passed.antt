@@ -1,7 +1,8 @@
 -- What a check that gave 0 says: its rules all fail.
-use Rattle.std.specs.Prelude.{◌≡◌, List, [], ◌∷◌, ℕ, Bool, true, false}
+use Rattle.std.specs.Prelude.{◌≡◌, List, [], ◌∷◌, ℕ, Bool, true, false, not, eqb, ltb, leb}
 use Rattle.std.proofs.Math.Path.{refl, sym}
-use Rattle.std.proofs.Common.{◌∙◌}
+use Rattle.std.proofs.Common.{◌∙◌, ltb-true, ltb-false, le-leb}
+use Rattle.std.proofs.lemmas.Bool.{lt-leb}
 use Rattle.image.specs.Layout.{bit, flags, owner, initialised}
 use Rattle.fields.specs.Rules.{Guard, test, when, verdict, pick, AllFail, free, unlinked}
 use Rattle.amount.specs.Biased.{num}
@@ -51,6 +52,23 @@ shared_free l caller signers e z =
     let u = unlinked _ (sym e ∙ z) in
     let (i, _) = not-insider_free l caller refl u.0 in
     sym (flag_is initialised_bit l) ∙ i
+
+-- a number that is 1 or 0, as a test
+pub set_bit : {n : ℕ} (t : Bool) → num t ≡ n → t ≡ not (eqb n 0)
+set_bit true e = rw (← e) refl
+set_bit false e = rw (← e) refl
+
+pub clear_bit : {n : ℕ} (t : Bool) → num t ≡ n → not t ≡ not (eqb n 1)
+clear_bit true e = rw (← e) refl
+clear_bit false e = rw (← e) refl
+
+-- the test of an amount that is not above another
+pub not_above : (a b : ℕ) → not (ltb a b) ≡ leb b a
+not_above a b = go (ltb a b) refl
+  where
+    go : (t : Bool) → ltb a b ≡ t → not t ≡ leb b a
+    go true e = sym (lt-leb b a (ltb-true a b e))
+    go false e = sym (le-leb b a (ltb-false a b e))
 
 -- a list of one rule of code 1
 pub one_rule : (g : Guard) → num (test g) ≡ verdict (when g 1 ∷ [])

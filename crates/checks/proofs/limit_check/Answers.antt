@@ -1,8 +1,9 @@
 -- `checks::limit_check` meets its contract.
 use native.Mathlib.Omega.{arith}
 use mathlib.Core.Path.{refl}
-use Rattle.fields.specs.Rules.{stop_at}
-use Rattle.std.proofs.Common.{rules}
+use Rattle.fields.specs.Rules.{stop_at, only_where, skip}
+use Rattle.std.proofs.Common.{rules, ◌∙◌, ◌≡◌, true, false, ◌<◌, ◌≤◌, ◌+◌}
+use Rattle.amount.specs.Biased.{bias, biased}
 use Rattle.amount.specs.Order.{gt_true, gt_false}
 use Rattle.amount.specs.Laws.{sum-biased, over_high, valued}
 use Rattle.checks.specs.Checks.{limit_number}
@@ -12,18 +13,11 @@ pub returns-in_default : goal.returns-in_default
 unfolding limit_number
 returns-in_default c = let h = over_high _ c.checked_add.ensures c.in_default.is (omega arith) in stop_at _ 0 _ (omega arith) refl
 
-pub returns-then-gt : goal.returns-then-gt
-unfolding limit_number
-returns-then-gt c =
-    let (r, _) = valued _ c.checked_add.ensures c.in-Some.is in
-    let e = sum-biased _ c.checked_add.ensures c.in-Some.is in
-    let h = gt_true c.in-Some.sum c.args.limit (search rules) (search rules) c.gt.ensures c.if-gt.true in
-    stop_at _ 1 _ (omega arith) refl
-
 pub returns : goal.returns
 unfolding limit_number
 returns c =
     let (r, _) = valued _ c.checked_add.ensures c.in-Some.is in
     let e = sum-biased _ c.checked_add.ensures c.in-Some.is in
-    let h = gt_false c.in-Some.sum c.args.limit (search rules) (search rules) c.gt.ensures c.if-gt.false in
-    stop_at _ 2 _ (omega arith) refl
+    let above : c.gt.result ≡ true → biased c.args.limit + bias < biased c.args.holding + biased c.args.n = λ y. let h = gt_true c.in-Some.sum c.args.limit (search rules) (search rules) c.gt.ensures y in omega arith in
+    let within : c.gt.result ≡ false → biased c.args.holding + biased c.args.n ≤ biased c.args.limit + bias = λ y. let h = gt_false c.in-Some.sum c.args.limit (search rules) (search rules) c.gt.ensures y in omega arith in
+    c.refuse_if.ensures ∙ (only_where _ 6 above within ∙ skip _ 7 _ (omega arith))
