@@ -3,3 +3,4 @@ pub mod Layout
 pub mod Good
 pub mod Laws
 pub mod Flags
+pub mod Kinds

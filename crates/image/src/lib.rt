@@ -2,11 +2,13 @@
 #![tactic(auto)]
 
 mod flag;
+mod kind;
 
 ghost use Rattle.std.specs.Prelude.{◌≡◌, ◌+◌, ◌*◌, ◌≤◌, ◌<◌, ltb, leb, eqb, length};
-ghost use Rattle.fields.specs.Bytes.{le};
+ghost use Rattle.fields.specs.Bytes.{le, put};
 ghost use Rattle.amount.specs.Biased.{amount_at, bias};
-ghost use Rattle.image.specs.Layout.{image_length, bit};
+ghost use Rattle.image.specs.Kinds.{kind_of, kind_number};
+ghost use Rattle.image.specs.Layout.{bit, slot, kind, token_at};
 ghost use Rattle.fields.specs.Logic.{all};
 ghost use Rattle.image.specs.Good.{
   not_negatives,
@@ -28,6 +30,7 @@ ghost use Rattle.image.specs.Good.{
 };
 
 pub use flag::Flag;
+pub use kind::Kind;
 
 // The bytes of an image: docs/FORMATS.md, "The image".
 pub const LENGTH: usize = 36832;
@@ -77,6 +80,7 @@ pub const TRACKED_KEYS: usize = 1504;
 pub const TOKENS: usize = 3680;
 
 pub const TOLLS: usize = 3688;
+
 pub const HOLDINGS: usize = 4064;
 
 pub const CREDITS: usize = 20448;
@@ -324,6 +328,20 @@ fn good_tokens(s: &Image) -> bool
         }
     }
     true
+}
+
+pub fn token_kind(img: &Image, t: usize) -> Kind
+    requires { (48 ≤ t) × (t < 64) }
+    ensures { result ≡ kind_of (kind img.now (slot t)) }
+{
+    Kind::from(fields::get64(img, TOKENS + 24 * (t - FIRST_TOKEN)))
+}
+
+pub fn set_token_kind(img: &mut Image, t: usize, kind: Kind)
+    requires { (48 ≤ t) × (t < 64) }
+    ensures { img.new ≡ put 8 img.old (token_at (slot t)) (kind_number «kind») }
+{
+    fields::put64(img, TOKENS + 24 * (t - FIRST_TOKEN), u64::from(kind));
 }
 
 // Total: any slice.

@@ -9,7 +9,6 @@ use Rattle.fields.specs.Logic.{false_and, true_and, and_is}
 use Rattle.fields.specs.Bytes.{le}
 use Rattle.image.specs.Good.{good_addresses, good_head}
 use Rattle.image.specs.Laws.{token_address}
-use borrow.Author.Rules.{rules}
 use Rattle.image.proofs.good_head.Goals as goal
 
 pub returns-then-f-ge64 : goal.returns-then-f-ge64
