@@ -9,45 +9,52 @@ ghost use Rattle.storage.specs.Facts.{Good};
 ghost use Rattle.token.specs.Token.{absent_number, vault_balance, arrives, debited, transfer_number, transferred};
 
 use amount::Amount;
+use image::{Image, Kind};
 use refusal::Refusal;
 
 // 23 where there is no such token.
-pub fn presence_check(img: &[u8], t: usize) -> Result<(), Refusal>
-    requires { length img.now ≡ image_length }
+pub fn presence_check(img: &Image, t: usize) -> Result<(), Refusal>
     ensures { code result ≡ absent_number img.now t }
 {
-    if t < 48 {
+    if t < image::FIRST_TOKEN {
         return Err(Refusal::TokenCallFailed);
     }
     if t >= 64 {
         return Err(Refusal::TokenCallFailed);
     }
-    if fields::get64(img, 3680 + 24 * (t - 48)) == 0 {
-        return Err(Refusal::TokenCallFailed);
-    }
-    Ok(())
+    refusal::refuse_if(
+        image::token_kind(img, t) == Kind::Absent,
+        Refusal::TokenCallFailed,
+    )
 }
 
-pub fn balance(img: &[u8], t: usize, a: usize) -> Amount
-    requires { (length img.now ≡ image_length) × (48 ≤ t) × (t < 64) × (a < 64) }
+pub fn balance(img: &Image, t: usize, a: usize) -> Amount
+    requires { (48 ≤ t) × (t < 64) × (a < 64) }
     ensures { biased result ≡ holding img.now (slot t) a }
 {
-    amount::read_amount(img, 4064 + 1024 * (t - 48) + 16 * a)
+    amount::read_amount(
+        img,
+        image::HOLDINGS + 1024 * (t - image::FIRST_TOKEN) + 16 * a,
+    )
 }
 
 // What the vault holds of its default token.
-pub fn vault_balance(img: &[u8]) -> Amount
+pub fn vault_balance(img: &Image) -> Amount
     requires { Good img.now × (initialised img.now ≡ 1) }
     ensures { biased result ≡ vault_balance img.now }
 {
-    balance(img, fields::get8(img, 3) as usize, 1)
+    balance(img, usize::from(fields::get8(img, image::DEFAULT_TOKEN)), 1)
 }
 
-fn set_balance(img: &mut [u8], t: usize, a: usize, n: Amount)
-    requires { (length img.old ≡ image_length) × (48 ≤ t) × (t < 64) × (a < 64) }
+fn set_balance(img: &mut Image, t: usize, a: usize, n: Amount)
+    requires { (48 ≤ t) × (t < 64) × (a < 64) }
     ensures { img.new ≡ put_amount img.old (holding_at (slot t) a) (biased n) }
 {
-    amount::write_amount(img, 4064 + 1024 * (t - 48) + 16 * a, n);
+    amount::write_amount(
+        img,
+        image::HOLDINGS + 1024 * (t - image::FIRST_TOKEN) + 16 * a,
+        n,
+    );
 }
 
 // What a receiver gets of an amount at a toll.
@@ -62,15 +69,18 @@ pub fn arrives(toll: Amount, n: Amount) -> Amount
 }
 
 // What a receiver gets of an amount of the token.
-fn after_toll(img: &[u8], t: usize, n: Amount) -> Amount
+fn after_toll(img: &Image, t: usize, n: Amount) -> Amount
     requires { Good img.now × (48 ≤ t) × (t < 64) }
     ensures { biased result ≡ bias + arrives (toll img.now (slot t)) (biased n) }
 {
-    arrives(amount::read_amount(img, 3688 + 24 * (t - 48)), n)
+    arrives(
+        amount::read_amount(img, image::TOLLS + 24 * (t - image::FIRST_TOKEN)),
+        n,
+    )
 }
 
 // What the receiver holds once the sender has lost the amount.
-fn before_receipt(img: &[u8], t: usize, from: usize, to: usize, n: Amount) -> Amount
+fn before_receipt(img: &Image, t: usize, from: usize, to: usize, n: Amount) -> Amount
     requires { Good img.now × (48 ≤ t) × (t < 64) × (from < 64) × (to < 64) × (bias ≤ biased n) × (biased n ≤ holding img.now (slot t) from) }
     ensures { biased result ≡ holding (debited img.now t from (biased n)) (slot t) to }
 {
@@ -81,17 +91,17 @@ fn before_receipt(img: &[u8], t: usize, from: usize, to: usize, n: Amount) -> Am
     have
 }
 
-fn transfer_check(img: &[u8], t: usize, from: usize, to: usize, n: Amount) -> Result<(), Refusal>
+fn transfer_check(img: &Image, t: usize, from: usize, to: usize, n: Amount) -> Result<(), Refusal>
     requires { Good img.now × (from < 64) × (to < 64) × (bias ≤ biased n) }
     ensures { code result ≡ transfer_number img.now t from to (biased n) }
 {
-    if t < 48 {
+    if t < image::FIRST_TOKEN {
         return Err(Refusal::TokenCallFailed);
     }
     if t >= 64 {
         return Err(Refusal::TokenCallFailed);
     }
-    if fields::get64(img, 3680 + 24 * (t - 48)) != 1 {
+    if image::token_kind(img, t) != Kind::Moving {
         return Err(Refusal::TokenCallFailed);
     }
     if balance(img, t, from) < n {
@@ -105,7 +115,7 @@ fn transfer_check(img: &[u8], t: usize, from: usize, to: usize, n: Amount) -> Re
 }
 
 // 23 where the transfer fails; it then changes nothing.
-pub fn transfer(img: &mut [u8], t: usize, from: usize, to: usize, n: Amount) -> Result<(), Refusal>
+pub fn transfer(img: &mut Image, t: usize, from: usize, to: usize, n: Amount) -> Result<(), Refusal>
     requires { Good img.old × (from < 64) × (to < 64) × (bias ≤ biased n) }
     ensures value { code result ≡ transfer_number img.old t from to (biased n) }
     ensures img_after { img.new ≡ transferred img.old t from to (biased n) }
