@@ -1,5 +1,5 @@
 -- A local holds the bits of a signed number (`of_z`), and an operation reads them (`to_z`): checked operations of two amounts.
-use Rattle.std.proofs.Common.{◌≡◌, ℕ, ◌+◌, ◌-◌, ◌*◌, ◌/◌, ◌%◌, ◌^◌, ◌<◌, ℤ, ◌+ℤ◌, ◌-ℤ◌, pos, negsuc, suc, neg_ℤ, Some, sym, ap, ap₂, ◌∙◌, to_z-of_z, SFits, to_z, of_z, arith, lit<, mod-eq_of_lt, mod-lt, div-lt_iff_lt-mul, refl, add-zero}
+use Rattle.std.proofs.Common.{◌≡◌, ℕ, ◌+◌, ◌-◌, ◌*◌, ◌/◌, ◌%◌, ◌^◌, ◌<◌, ℤ, ◌+ℤ◌, ◌-ℤ◌, pos, negsuc, suc, neg_ℤ, Some, sym, ap, ap₂, ◌∙◌, to_z-of_z, SFits, to_z, of_z, arith, lit<, mod-eq_of_lt, mod-lt, div-lt_iff_lt-mul, refl}
 use Rattle.std.specs.Int.{w128, to_le_bytes}
 use Rattle.std.proofs.Math.Nat.{div-div-eq-div-mul}
 use Rattle.fields.proofs.Numbers.{low}
@@ -11,11 +11,8 @@ use Rattle.amount.specs.Laws.{by_lt, bias_parts, full_parts, flip_back, amount_a
 use Rattle.std.specs.Prelude.{List, slice_index}
 use Rattle.fields.specs.Bytes.{le, put, le_below, put_halves}
 use Rattle.amount.specs.Halves.{InRange, wrapped}
-use Rattle.std.proofs.Math.Arith.{digits_lt}
 use Rattle.std.proofs.Math.Nat.{add-mod_right}
-use Rattle.std.specs.Int.Bits.{bit_or}
 use borrow.Author.Gap.{read_sfits}
-use Rattle.std.proofs.lemmas.Grind.{or_after_shift}
 use mir.Facts.{to_z_pos, to_z-neg, Fits-of_z}
 use lib.IntN.{sub_ℕ}
 

@@ -1,5 +1,5 @@
 -- `amount::read_amount` meets its contract.
-use Rattle.std.proofs.Common.{◌≡◌, ◌+◌, ◌-◌, ℕ, take, drop, arith, rules}
+use Rattle.std.proofs.Common.{◌≡◌, ◌+◌, ◌-◌, take, drop, arith, rules}
 use Rattle.std.specs.Int.{w128, from_le_bytes}
 use Rattle.fields.specs.Bytes.{le}
 use Rattle.fields.proofs.Numbers.{le-part}
