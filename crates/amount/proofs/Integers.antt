@@ -1,17 +1,18 @@
 -- A local holds the bits of a signed number (`of_z`), and an operation reads them (`to_z`): checked operations of two amounts.
-use Rattle.std.proofs.Common.{◌≡◌, ℕ, ◌+◌, ◌-◌, ◌*◌, ◌/◌, ◌%◌, ◌^◌, ◌<◌, ℤ, ◌+ℤ◌, ◌-ℤ◌, pos, negsuc, suc, neg_ℤ, Some, sym, ap, ap₂, ◌∙◌, to_z-of_z, SFits, to_z, of_z, arith, lit<, mod-eq_of_lt, mod-lt, div-lt_iff_lt-mul, refl, add-zero}
-use Rattle.std.specs.Int.{w128}
+use Rattle.std.proofs.Common.{◌≡◌, ℕ, ◌+◌, ◌-◌, ◌*◌, ◌/◌, ◌%◌, ◌^◌, ◌<◌, ℤ, ◌+ℤ◌, ◌-ℤ◌, pos, negsuc, suc, neg_ℤ, Some, sym, ap, ap₂, ◌∙◌, to_z-of_z, SFits, to_z, of_z, arith, lit<, mod-eq_of_lt, mod-lt, div-lt_iff_lt-mul, refl}
+use Rattle.std.specs.Int.{w128, to_le_bytes}
+use Rattle.std.proofs.Math.Nat.{div-div-eq-div-mul}
+use Rattle.fields.proofs.Numbers.{low}
 use Rattle.amount.specs.declared.Amount.{Amount}
-use Rattle.amount.specs.Biased.{biased, bias, in_range}
+use Rattle.amount.specs.Biased.{biased, bias, in_range, amount_at, put_amount}
 use Rattle.amount.specs.Value.{fits_in, number_in, some_of, sum_is, difference_is, negative_is}
 use Rattle.amount.specs.Biased.{biased_integer}
-use Rattle.amount.specs.Laws.{by_lt, bias_parts, full_parts, flip_back}
+use Rattle.amount.specs.Laws.{by_lt, bias_parts, full_parts, flip_back, amount_at-bytes}
+use Rattle.std.specs.Prelude.{List, slice_index}
+use Rattle.fields.specs.Bytes.{le, put, le_below, put_halves}
 use Rattle.amount.specs.Halves.{InRange, wrapped}
-use Rattle.std.proofs.Math.Arith.{digits_lt}
 use Rattle.std.proofs.Math.Nat.{add-mod_right}
-use Rattle.std.specs.Int.Bits.{bit_or}
 use borrow.Author.Gap.{read_sfits}
-use Rattle.std.proofs.lemmas.Grind.{or_after_shift}
 use mir.Facts.{to_z_pos, to_z-neg, Fits-of_z}
 use lib.IntN.{sub_ℕ}
 
@@ -57,45 +58,37 @@ biased_bits n b =
     let k : n - bias < bias + bias = omega arith in
     rw (f, g, add-mod_right (n - bias) (bias + bias), mod-eq_of_lt k) (omega arith))
 
--- h is the high half of the bits and x the low half
-module _ (h x : ℕ) (p : h < 2 ^ 64) (q : x < 2 ^ 64) where
-  two_halves : x + 2 ^ 64 * h < bias + bias
-  two_halves = let d : h * 2 ^ 64 + x < 2 ^ 64 * 2 ^ 64 = digits_lt p q in let e : x + 2 ^ 64 * h ≡ h * 2 ^ 64 + x = omega arith in rw (full_parts, e) d
+-- an amount of the bits n
+pub of_bits : (l : List ℕ) (at n : ℕ) → ((i : ℕ) → slice_index l i < 256) → n ≡ le 16 l at → biased (record { 0 = local (to_z w128 n) }) ≡ amount_at l at
+unfolding biased
+of_bits l at n h e =
+    let b : n < 2 ^ 64 * 2 ^ 64 = rw e (le_below 16 l at h) in
+    rw (to_z-of_z (read_sfits w128 n)) (biased_bits n (rw full_parts b) ∙ ap (λ (k : ℕ). (k + bias) % (bias + bias)) e ∙ sym (amount_at-bytes l at h))
 
-  pub read_bits : biased (record { 0 = to_z w128 (x + 2 ^ 64 * h) }) ≡ (h + 2 ^ 63) % 2 ^ 64 * 2 ^ 64 + x
-  unfolding biased
-  read_bits = biased_bits (x + 2 ^ 64 * h) two_halves ∙ rw (full_parts, bias_parts) (wrapped (2 ^ 64) (2 ^ 63) h x (lit< tt) (lit< tt) q)
-
-  -- as `<<` and `|` put them together, in a local
-  pub joined : biased (record { 0 = local (to_z w128 (bit_or (h * 2 ^ 64 % 2 ^ 128) x)) }) ≡ (h + 2 ^ 63) % 2 ^ 64 * 2 ^ 64 + x
-  joined =
-      let b : h * 2 ^ 64 < 2 ^ 64 * 2 ^ 64 = (let d : h * 2 ^ 64 + 0 < 2 ^ 64 * 2 ^ 64 = digits_lt p (lit< tt) in rw add-zero at d) in
-      let e : bit_or (h * 2 ^ 64 % 2 ^ 128) x ≡ h * 2 ^ 64 + x = or_after_shift h (2 ^ 64) (2 ^ 128) x refl q b in
-      let n : h * 2 ^ 64 + x ≡ x + 2 ^ 64 * h = omega arith in
-      rw (e, n, to_z-of_z (read_sfits w128 (x + 2 ^ 64 * h))) read_bits
-
--- the halves of an amount's bits
+-- the bits of an amount in bytes
 module _ (a : Amount) (f : SFits w128 a.0) where
   bits_are : (u : ℕ) → u ≡ of_z w128 a.0 → u < bias + bias → biased a ≡ (u / 2 ^ 64 + 2 ^ 63) % 2 ^ 64 * 2 ^ 64 + u % 2 ^ 64
+  unfolding biased
   bits_are u e b =
-      let h : u / 2 ^ 64 < 2 ^ 64 = (div-lt_iff_lt-mul (lit< tt)).1 (rw full_parts at b) in
       let d : u % 2 ^ 64 + 2 ^ 64 * (u / 2 ^ 64) ≡ u = omega arith in
-      ap (λ (z : ℤ). biased (record { 0 = z })) (sym (ap (to_z w128) (d ∙ e) ∙ to_z-of_z f)) ∙ read_bits (u / 2 ^ 64) (u % 2 ^ 64) h (mod-lt u (lit< tt))
+      ap biased_integer (sym (ap (to_z w128) e ∙ to_z-of_z f)) ∙ biased_bits u b
+      ∙ rw (full_parts, bias_parts) (ap (λ (k : ℕ). (k + 2 ^ 63 * 2 ^ 64) % (2 ^ 64 * 2 ^ 64)) (sym d) ∙ wrapped (2 ^ 64) (2 ^ 63) (u / 2 ^ 64) (u % 2 ^ 64) (lit< tt) (lit< tt) (mod-lt u (lit< tt)))
 
-  kept : of_z w128 (local a.0) ≡ of_z w128 a.0
-  kept = ap (of_z w128) (to_z-of_z f)
-
-  below : of_z w128 (local a.0) < bias + bias
+  below : of_z w128 a.0 < bias + bias
   unfolding bias
-  below = rw kept (Fits-of_z f).fits
+  below = (Fits-of_z f).fits
 
-  pub bits_low : of_z w128 (local a.0) % 2 ^ 64 ≡ biased a % 2 ^ 64
-  bits_low = let u = of_z w128 (local a.0) in let e = bits_are u kept below in omega arith
-
-  pub bits_high : of_z w128 (local a.0) / 2 ^ 64 ≡ (biased a / 2 ^ 64 + 2 ^ 63) % 2 ^ 64
-  bits_high =
-      let u = of_z w128 (local a.0) in
-      let e = bits_are u kept below in
+  -- put in sixteen bytes, the least significant first
+  pub put_bits : (l : List ℕ) (at : ℕ) → put 16 l at (of_z w128 (local a.0)) ≡ put_amount l at (biased a)
+  unfolding put_amount
+  put_bits l at =
+      let u = of_z w128 a.0 in
+      let n = biased a in
       let h : u / 2 ^ 64 < 2 ^ 64 = (div-lt_iff_lt-mul (lit< tt)).1 (rw full_parts at below) in
-      let g : biased a / 2 ^ 64 ≡ (u / 2 ^ 64 + 2 ^ 63) % 2 ^ 64 = omega arith in
-      rw (g, flip_back (u / 2 ^ 64) h)
+      let e : n ≡ (u / 2 ^ 64 + 2 ^ 63) % 2 ^ 64 * 2 ^ 64 + u % 2 ^ 64 = bits_are u refl below in
+      let x : u % 2 ^ 64 ≡ n % 2 ^ 64 = omega arith in
+      let g : n / 2 ^ 64 ≡ (u / 2 ^ 64 + 2 ^ 63) % 2 ^ 64 = omega arith in
+      rw (to_z-of_z f) (put_halves 8 8 l at u ∙ rw (g, flip_back (u / 2 ^ 64) h, x) refl)
+
+pub digits_of_16 : (x : ℕ) → to_le_bytes w128 x ≡ low 16 x
+digits_of_16 x = simp div-div-eq-div-mul

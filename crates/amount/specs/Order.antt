@@ -1,6 +1,6 @@
 -- The comparisons of two amounts are those of their numbers.
 use Rattle.std.specs.Prelude.{not, ◌≡◌, ℕ, ◌<◌, ◌≤◌, Bool, true, false, cond, pos, FitsSigned, int_lt, nat_lt, refl}
-use Rattle.std.proofs.Common.{ap, ◌∙◌, sym, add-zero, Less, Equal, Greater, arith, lt-ltb, le-ltb, ltb-true, ltb-false}
+use Rattle.std.proofs.Common.{ap, ◌∙◌, sym, add-zero, Less, Equal, Greater, arith, lit<, lt-ltb, le-ltb, ltb-true, ltb-false}
 use Rattle.std.specs.Int.{w128}
 use Rattle.std.specs.Ordering.{is_lt, is_gt, int_cmp, int_eq}
 use Rattle.amount.specs.declared.Amount.{Amount}
@@ -14,6 +14,9 @@ use Rattle.amount.specs.Value.{value, less_value}
 -- the number of zero
 pub biased_zero : biased (record { 0 = pos 0 }) ≡ bias
 biased_zero = biased_from 0 ∙ add-zero bias
+
+zero_fits : FitsSigned w128 (pos 0)
+zero_fits = record { sfits = lit< tt }
 
 ranked : (s t : Bool) → is_lt (cond s Less (cond t Greater Equal)) ≡ s
 ranked true t = refl
@@ -43,6 +46,14 @@ module _ (a b : Amount) (f : FitsSigned w128 a.0) (g : FitsSigned w128 b.0) wher
       let p : int_lt a.0 b.0 ≡ nat_lt (biased a) (biased b) = less_value a b f g in
       let q : int_lt b.0 a.0 ≡ nat_lt (biased b) (biased a) = less_value b a g f in
       rw (p, q) (ranked_gt (biased a) (biased b))
+
+module _ (a : Amount) (f : FitsSigned w128 a.0) where
+  -- and against zero
+  pub less_zero : is_lt (int_cmp a.0 (pos 0)) ≡ nat_lt (biased a) bias
+  less_zero = rw (← biased_zero) (less_is a (record { 0 = pos 0 }) f zero_fits)
+
+  pub greater_zero : is_gt (int_cmp a.0 (pos 0)) ≡ nat_lt bias (biased a)
+  greater_zero = rw (← biased_zero) (greater_is a (record { 0 = pos 0 }) f zero_fits)
 
 -- t is the answer of a comparison
 module _ {t : Bool} (a b : Amount) (f : FitsSigned w128 a.0) (g : FitsSigned w128 b.0) where

@@ -8,9 +8,9 @@ use Rattle.sha256.specs.declared.State.{State}
 use Rattle.sha256.specs.Sha256.{constants, initial, bytes_of, padding, padded, block, round, rounds, compress, blocks, digest, sha256}
 use Rattle.sha256.proofs.Words.{length-bytes_of}
 
-pub rounds-step : (w : List ℕ) (s : State) (i : ℕ) {v r : State} → r ≡ round (get_or constants i 0) (get_or w i 0) v → v ≡ rounds i w s → r ≡ rounds (i + 1) w s
+pub rounds_step : (w : List ℕ) (s : State) (i : ℕ) {v r : State} → r ≡ round (get_or constants i 0) (get_or w i 0) v → v ≡ rounds i w s → r ≡ rounds (i + 1) w s
 unfolding rounds
-rounds-step w s i e p = rw (add-one, ← p) e
+rounds_step w s i e p = rw (add-one, ← p) e
 
 pub blocks_step : (l : List ℕ) (s : State) (i n : ℕ) {v r : State} → n ≡ 64 → r ≡ compress v (take n (drop (64 * i) l)) → v ≡ blocks i s l → r ≡ blocks (i + 1) s l
 unfolding blocks block

@@ -1,7 +1,7 @@
 -- Words: a rotation by two shifts, and one turn of each loop that reads, extends or writes words.
 use Rattle.std.proofs.Common.{◌≡◌, ℕ, zero, suc, ◌+◌, ◌-◌, ◌*◌, ◌/◌, ◌%◌, ◌^◌, ◌<◌, ◌≤◌, List, [], ◌∷◌, ◌++◌, length, get_or, take, drop, set, refl, ◌∙◌, append_assoc, append-nil, add-zero, add_comm, add-one, arith, length-append, length-take-le, get_or-take, take-suc, take-suc-set, take_at, shr_lt}
 use native.Mathlib.Nat.{mul-mod_left}
-use lib.Bits.{bit_or, or_shifted_r}
+use lib.Bits.{bit_or, bit_xor, or_shifted_r}
 use lib.Pow.{mod-pow-add, shl-shr}
 use Rattle.std.specs.Int.{w32, w64, to_be_bytes}
 use Rattle.std.proofs.Math.Nat.{div-div-eq-div-mul}
@@ -15,11 +15,14 @@ rotated n m x h =
     rw e (or_shifted_r (x % 2 ^ n) m (x / 2 ^ n) k ∙ add_comm (x % 2 ^ n * 2 ^ m) (x / 2 ^ n))
 
 -- the rotation of std, which is two shifts joined
-pub rotation : (n x : ℕ) → n ≤ 32 → x < 2 ^ 32 → bit_or (x / 2 ^ n) (x * 2 ^ (32 - n) % 2 ^ 32) ≡ rotate_right n x
+pub rotation : (n x : ℕ) {p : ℕ} → p ≡ bit_or (x / 2 ^ n) (x * 2 ^ (32 - n) % 2 ^ 32) → n ≤ 32 → x < 2 ^ 32 → p ≡ rotate_right n x
 unfolding rotate_right
-rotation n x h k =
+rotation n x q h k =
     let e : n + (32 - n) ≡ 32 = omega arith in
-    rw e at (rotated n (32 - n) x (rw e k))
+    q ∙ (rw e at (rotated n (32 - n) x (rw e k)))
+
+pub same_xor : {p q r x y z : ℕ} → p ≡ x → q ≡ y → r ≡ z → bit_xor (bit_xor p q) r ≡ bit_xor (bit_xor x y) z
+same_xor e f g = rw (e, f, g)
 
 -- one word more is read
 pub load_step : (w l : List ℕ) (i : ℕ) {x : ℕ} → i < length w → x ≡ word_at l (4 * i) → take i w ≡ words i l → take (i + 1) (set w i x) ≡ words (i + 1) l

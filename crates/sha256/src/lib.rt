@@ -97,30 +97,35 @@ fn majority(x: u32, y: u32, z: u32) -> u32
     (x & y) ^ (x & z) ^ (y & z)
 }
 
+#[tactic(auto, unfolding(crate::specs::Sha256::big_sigma0), using(crate::proofs::Words::same_xor, crate::proofs::Words::rotation))]
 fn big_sigma0(x: u32) -> u32
     ensures { result ≡ big_sigma0 x }
 {
     x.rotate_right(2) ^ x.rotate_right(13) ^ x.rotate_right(22)
 }
 
+#[tactic(auto, unfolding(crate::specs::Sha256::big_sigma1), using(crate::proofs::Words::same_xor, crate::proofs::Words::rotation))]
 fn big_sigma1(x: u32) -> u32
     ensures { result ≡ big_sigma1 x }
 {
     x.rotate_right(6) ^ x.rotate_right(11) ^ x.rotate_right(25)
 }
 
+#[tactic(auto, unfolding(crate::specs::Sha256::small_sigma0), using(crate::proofs::Words::same_xor, crate::proofs::Words::rotation))]
 fn small_sigma0(x: u32) -> u32
     ensures { result ≡ small_sigma0 x }
 {
     x.rotate_right(7) ^ x.rotate_right(18) ^ (x >> 3)
 }
 
+#[tactic(auto, unfolding(crate::specs::Sha256::small_sigma1), using(crate::proofs::Words::same_xor, crate::proofs::Words::rotation))]
 fn small_sigma1(x: u32) -> u32
     ensures { result ≡ small_sigma1 x }
 {
     x.rotate_right(17) ^ x.rotate_right(19) ^ (x >> 10)
 }
 
+#[tactic(auto, unfolding(crate::specs::Sha256::word_at))]
 fn word_at(s: &[u8], at: usize) -> u32
     requires { at + 4 ≤ length s.now }
     ensures { result ≡ word_at s.now at }
@@ -129,6 +134,7 @@ fn word_at(s: &[u8], at: usize) -> u32
 }
 
 // Reads the block's sixteen words.
+#[tactic(auto, unfolding(crate::specs::Sha256::words), using(crate::proofs::Words::load_step))]
 fn load(w: &mut [u32], block: &[u8])
     requires { (length w.old ≡ 64) × (64 ≤ length block.now) }
     ensures { take 16 w.new ≡ words 16 block.now }
@@ -139,6 +145,7 @@ fn load(w: &mut [u32], block: &[u8])
 }
 
 // Computes the other 48 words of the schedule.
+#[tactic(auto, unfolding(crate::specs::Sha256::extended, crate::specs::Sha256::next_word), using(crate::proofs::Words::extend_step))]
 fn extend(w: &mut [u32])
     requires { length w.old ≡ 64 }
     ensures { w.new ≡ extended 48 (take 16 w.old) }
@@ -150,6 +157,7 @@ fn extend(w: &mut [u32])
     }
 }
 
+#[tactic(auto, unfolding(crate::specs::Sha256::temporary1))]
 fn temporary1(s: State, k: u32, w: u32) -> u32
     ensures { result ≡ temporary1 s k w }
 {
@@ -159,12 +167,14 @@ fn temporary1(s: State, k: u32, w: u32) -> u32
         .wrapping_add(w)
 }
 
+#[tactic(auto, unfolding(crate::specs::Sha256::temporary2))]
 fn temporary2(s: State) -> u32
     ensures { result ≡ temporary2 s }
 {
     big_sigma0(s.a).wrapping_add(majority(s.a, s.b, s.c))
 }
 
+#[tactic(auto, unfolding(crate::specs::Sha256::round))]
 fn round(s: State, k: u32, w: u32) -> State
     ensures { result ≡ round k w s }
 {
@@ -182,6 +192,7 @@ fn round(s: State, k: u32, w: u32) -> State
     }
 }
 
+#[tactic(auto, unfolding(crate::specs::Sha256::rounds))]
 fn rounds(s: State, w: &[u32; 64]) -> State
     ensures { result ≡ rounds 64 w.now s }
 {
@@ -192,6 +203,7 @@ fn rounds(s: State, w: &[u32; 64]) -> State
     v
 }
 
+#[tactic(auto, unfolding(crate::specs::Sha256::sum))]
 fn sum(s: State, t: State) -> State
     ensures { result ≡ sum s t }
 {
@@ -207,6 +219,7 @@ fn sum(s: State, t: State) -> State
     }
 }
 
+#[tactic(auto, unfolding(crate::specs::Sha256::compress, crate::specs::Sha256::schedule))]
 fn compress(s: State, block: &[u8]) -> State
     requires { 64 ≤ length block.now }
     ensures { result ≡ compress s block.now }
@@ -218,6 +231,7 @@ fn compress(s: State, block: &[u8]) -> State
 }
 
 // Takes in the first n blocks.
+#[tactic(auto, unfolding(crate::specs::Sha256::blocks))]
 fn blocks(s: State, bytes: &[u8], n: usize) -> State
     requires { 64 * n ≤ length bytes.now }
     ensures { result ≡ blocks n s bytes.now }
@@ -229,6 +243,7 @@ fn blocks(s: State, bytes: &[u8], n: usize) -> State
     v
 }
 
+#[tactic(auto, unfolding(crate::specs::Sha256::bytes_of_words), using(crate::proofs::Words::words_step, crate::proofs::Words::word_bytes))]
 fn store_words(words: &[u32], out: &mut [u8])
     requires { length out.old ≡ 4 * length words.now }
     ensures { out.new ≡ bytes_of_words words.now }
@@ -250,6 +265,7 @@ fn mark(tail: &mut [u8], rest: &[u8])
 }
 
 // Fills the buffer with the last bytes of a message of len bytes and its padding. The answer is how many blocks they take.
+#[tactic(auto, using(crate::proofs::Chain::padded_end, crate::proofs::Words::length_bytes))]
 fn pad(tail: &mut [u8], rest: &[u8], len: usize) -> usize
     requires { (length tail.old ≡ 128) × (length rest.now ≡ len % 64) }
     ensures { (result ≤ 2) × (take (64 * result) tail.new ≡ rest.now ++ padding len) }
@@ -264,6 +280,7 @@ fn pad(tail: &mut [u8], rest: &[u8], len: usize) -> usize
     n
 }
 
+#[tactic(auto, using(crate::proofs::Chain::part))]
 fn last_blocks(s: State, rest: &[u8], len: usize) -> State
     requires { length rest.now ≡ len % 64 }
     ensures { result ≡ blocks (length (rest.now ++ padding len) / 64) s (rest.now ++ padding len) }
@@ -288,6 +305,7 @@ fn initial() -> State
     }
 }
 
+#[tactic(auto, unfolding(crate::specs::Sha256::digest), using(crate::proofs::Chain::hashed))]
 pub fn sha256(bytes: &[u8], out: &mut [u8; 32])
     ensures { out.new ≡ sha256 bytes.now }
 {

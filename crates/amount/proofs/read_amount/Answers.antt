@@ -1,11 +1,15 @@
 -- `amount::read_amount` meets its contract.
-use Rattle.std.proofs.Common.{arith}
-use Rattle.amount.specs.Biased.{amount_at}
-use Rattle.amount.proofs.Integers.{joined}
+use Rattle.std.proofs.Common.{◌≡◌, ◌+◌, ◌-◌, take, drop, arith, rules}
+use Rattle.std.specs.Int.{w128, from_le_bytes}
+use Rattle.fields.specs.Bytes.{le}
+use Rattle.fields.proofs.Numbers.{le-part}
+use Rattle.amount.proofs.Integers.{of_bits}
 use Rattle.amount.proofs.read_amount.Goals as goal
 
 pub returns : goal.returns
-unfolding amount_at
+unfolding le
 returns c =
-    rw (c.cast_signed.ensures, c.from-high.ensures, c.from-low.ensures, ← c.get64.ensures, ← c.get64-2.ensures)
-    (joined c.get64-2.result c.get64.result (omega arith) (omega arith))
+    let x = c.args in
+    let e : c.unwrap.result ≡ take (x.at + 16 - x.at) (drop x.at x.s.now) = search rules in
+    let h : from_le_bytes w128 c.unwrap.result ≡ le 16 x.s.now x.at = rw (← le-part 16 x.s.now x.at, ← e) (omega arith) in
+    rw c.from_le_bytes.ensures (of_bits x.s.now x.at (from_le_bytes w128 c.unwrap.result) (λ i. omega (arith, c.type_inv.s i)) h)

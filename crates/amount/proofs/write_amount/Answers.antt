@@ -1,12 +1,10 @@
 -- `amount::write_amount` meets its contract.
-use Rattle.std.proofs.Common.{rules, SFits}
-use Rattle.std.specs.Int.{w128}
-use Rattle.amount.specs.Biased.{put_amount}
-use Rattle.amount.proofs.Integers.{bits_low, bits_high}
+use Rattle.std.proofs.Common.{rules, ◌∙◌}
+use Rattle.fields.proofs.Numbers.{put-part}
+use Rattle.amount.proofs.Integers.{put_bits, digits_of_16}
 use Rattle.amount.proofs.write_amount.Goals as goal
 
 pub returns : goal.returns
-unfolding put_amount
 returns c =
-    let f : SFits w128 c.args.a.0 = search rules in
-    rw (← bits_low c.args.a f, ← bits_high c.args.a f) (cc)
+    let x = c.args in
+    put-part 16 x.s.now _ x.at _ c.requires (c.copy_from_slice.ensures.after ∙ c.to_le_bytes.ensures ∙ digits_of_16 _) ∙ put_bits x.a (search rules) x.s.now x.at

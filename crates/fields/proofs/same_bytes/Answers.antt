@@ -1,7 +1,7 @@
 -- `fields::same_bytes` meets its contract.
-use Rattle.std.proofs.Common.{arith, length, length-append}
-use Rattle.std.proofs.lemmas.Slice.Zip.{zip_turn, zip_end}
-use Rattle.fields.proofs.Loops.{same_none, same_step, same-done}
+use Rattle.std.proofs.Common.{length, length-append}
+use Rattle.std.proofs.lemmas.Slice.Zip.{zip_turn}
+use Rattle.fields.proofs.Loops.{same_none, same_step}
 use Rattle.fields.proofs.same_bytes.Goals as goal
 
 pub loop-x-init : goal.loop-x-init
@@ -12,9 +12,3 @@ loop-x-preserved c =
     let l = c.loop-x in
     let t = zip_turn c.args.a.now c.args.b.now l.yielded c.into_iter-x-iterator.result l.x-iterator c.next.new.self c.next.result (cc) (cc) l.yielded_by _ c.in-Some.is c.next.ensures.steps in
     rw (length-append, t.2 0, t.3 0) (same_step c.args.a.now c.args.b.now (length l.yielded) l.difference t.0 t.1 l.invariant)
-
-pub returns : goal.returns
-returns c =
-    let l = c.loop-x in
-    let n = zip_end c.args.a.now c.args.b.now l.yielded c.into_iter-x-iterator.result l.x-iterator c.next.new.self c.next.result (cc) (cc) l.yielded_by c.in-None.is c.next.ensures.steps in
-    same-done c.args.a.now c.args.b.now (length l.yielded) l.difference (omega arith) (omega (arith, n)) l.invariant
