@@ -3,6 +3,7 @@
 
 ghost use Rattle.std.specs.Prelude.{◌≡◌, [], ◌+◌, ◌<◌, ◌≤◌, length};
 ghost use Rattle.refusal.specs.Numbers.{code};
+ghost use Rattle.amount.specs.Biased.{biased, num};
 ghost use Rattle.events.specs.Splice.{splice};
 ghost use Rattle.events.specs.Event.{written_fields, event_head, put_event, event_buffer, buffer_number};
 ghost use Rattle.events.specs.Kinds.{fields_of};
@@ -97,7 +98,14 @@ pub enum Event {
     },
 }
 
-// What the 56 bytes of an event say; an address or a number that its kind has not is 0.
+// The length of an event's bytes, and of the buffer, which holds sixteen.
+pub const EVENT_LENGTH: usize = 56;
+
+pub const LENGTH: usize = 896;
+
+pub type Buffer = [u8; LENGTH];
+
+// What the bytes of an event say; an address or a number that its kind has not is 0.
 #[derive(Clone, Copy)]
 struct Fields {
     kind: u8,
@@ -110,159 +118,144 @@ struct Fields {
 // The reason of a failed deposit: the token refused the transfer.
 const TOKEN_REFUSED: u64 = 1;
 
-impl Fields {
-    fn new(kind: u8, first: u8, second: u8, yes: bool, numbers: [Amount; 3]) -> Fields
-        ensures { result ≡ record { kind = kind; first = first; second = second; yes = yes; numbers = numbers } }
+#[tactic(auto, unfolding(crate::specs::Kinds::initialized_event, crate::specs::Kinds::deposited_event, crate::specs::Kinds::token_deposited_event, crate::specs::Kinds::withdrawn_event, crate::specs::Kinds::limit_set_event, crate::specs::Kinds::operator_withdraw_limit_set_event, crate::specs::Kinds::operator_set_event, crate::specs::Kinds::operator_revoked_event, crate::specs::Kinds::paused_event, crate::specs::Kinds::unpaused_event, crate::specs::Kinds::owner_proposed_event, crate::specs::Kinds::owner_accepted_event, crate::specs::Kinds::owner_proposal_ttl_set_event, crate::specs::Kinds::emergency_migration_initiated_event, crate::specs::Kinds::emergency_migration_executed_event, crate::specs::Kinds::emergency_migration_cancelled_event, crate::specs::Kinds::vault_deposit_failed_event, crate::specs::Kinds::token_approval_changed_event), using(amount::specs::Order::biased_zero))]
+impl Event {
+    fn kind(self) -> u8
+        ensures { result ≡ (fields_of self).kind }
     {
-        Fields {
-            kind,
-            first,
-            second,
-            yes,
-            numbers,
+        match self {
+            Event::Initialized { .. } => 1,
+            Event::Deposited { .. } => 2,
+            Event::TokenDeposited { .. } => 3,
+            Event::Withdrawn { .. } => 4,
+            Event::LimitSet { .. } => 5,
+            Event::OperatorWithdrawLimitSet { .. } => 6,
+            Event::OperatorSet { .. } => 7,
+            Event::OperatorRevoked { .. } => 8,
+            Event::Paused { .. } => 9,
+            Event::Unpaused { .. } => 10,
+            Event::OwnerProposed { .. } => 11,
+            Event::OwnerAccepted { .. } => 12,
+            Event::OwnerProposalTtlSet { .. } => 13,
+            Event::EmergencyMigrationInitiated { .. } => 14,
+            Event::EmergencyMigrationExecuted { .. } => 15,
+            Event::EmergencyMigrationCancelled { .. } => 16,
+            Event::VaultDepositFailed { .. } => 17,
+            Event::TokenApprovalChanged { .. } => 18,
         }
     }
-}
 
-impl Event {
+    // The address at 1. That of an approval is the token.
+    fn first(self) -> u8
+        ensures { result ≡ (fields_of self).first }
+    {
+        match self {
+            Event::Initialized { owner, .. } => owner,
+            Event::Deposited { from, .. }
+            | Event::TokenDeposited { from, .. }
+            | Event::VaultDepositFailed { from, .. } => from,
+            Event::Withdrawn { caller, .. }
+            | Event::LimitSet { caller, .. }
+            | Event::OperatorWithdrawLimitSet { caller, .. }
+            | Event::OperatorSet { caller, .. }
+            | Event::OperatorRevoked { caller }
+            | Event::Paused { caller, .. }
+            | Event::Unpaused { caller, .. }
+            | Event::OwnerProposed { caller, .. }
+            | Event::OwnerAccepted { caller, .. }
+            | Event::OwnerProposalTtlSet { caller, .. }
+            | Event::EmergencyMigrationInitiated { caller, .. }
+            | Event::EmergencyMigrationExecuted { caller, .. }
+            | Event::EmergencyMigrationCancelled { caller } => caller,
+            Event::TokenApprovalChanged { token, .. } => token,
+        }
+    }
+
+    fn second(self) -> u8
+        ensures { result ≡ (fields_of self).second }
+    {
+        match self {
+            Event::Initialized { token, .. } | Event::VaultDepositFailed { token, .. } => token,
+            Event::Withdrawn { to, .. } => to,
+            Event::OperatorSet { operator, .. } => operator,
+            Event::OwnerProposed { new_owner, .. } => new_owner,
+            Event::OwnerAccepted { old_owner, .. } => old_owner,
+            Event::EmergencyMigrationInitiated { destination, .. }
+            | Event::EmergencyMigrationExecuted { destination, .. } => destination,
+            _ => 0,
+        }
+    }
+
+    fn yes(self) -> bool
+        ensures { num result ≡ (fields_of self).yes }
+    {
+        match self {
+            Event::Withdrawn { by_operator, .. } => by_operator,
+            Event::TokenApprovalChanged { approved, .. } => approved,
+            _ => false,
+        }
+    }
+
+    fn number0(self) -> Amount
+        ensures { biased result ≡ (fields_of self).number0 }
+    {
+        match self {
+            Event::Initialized { max_limit, .. } => max_limit,
+            Event::Deposited { amount, .. }
+            | Event::Withdrawn { amount, .. }
+            | Event::EmergencyMigrationExecuted { amount, .. }
+            | Event::VaultDepositFailed { amount, .. } => amount,
+            Event::TokenDeposited { gross_amount, .. } => gross_amount,
+            Event::LimitSet { old_limit, .. } | Event::OperatorWithdrawLimitSet { old_limit, .. } =>
+                old_limit,
+            Event::Paused { paused_at, .. } => Amount::from(paused_at),
+            Event::Unpaused { resumed_at, .. } => Amount::from(resumed_at),
+            Event::OwnerProposalTtlSet { old_ttl, .. } => Amount::from(old_ttl),
+            Event::EmergencyMigrationInitiated { executable_at, .. } => Amount::from(executable_at),
+            _ => Amount::ZERO,
+        }
+    }
+
+    fn number1(self) -> Amount
+        ensures { biased result ≡ (fields_of self).number1 }
+    {
+        match self {
+            Event::Deposited { new_balance, .. } | Event::Withdrawn { new_balance, .. } =>
+                new_balance,
+            Event::TokenDeposited { fee_amount, .. } => fee_amount,
+            Event::LimitSet { new_limit, .. } | Event::OperatorWithdrawLimitSet { new_limit, .. } =>
+                new_limit,
+            Event::OwnerProposalTtlSet { new_ttl, .. } => Amount::from(new_ttl),
+            Event::VaultDepositFailed { .. } => Amount::from(TOKEN_REFUSED),
+            _ => Amount::ZERO,
+        }
+    }
+
+    fn number2(self) -> Amount
+        ensures { biased result ≡ (fields_of self).number2 }
+    {
+        match self {
+            Event::TokenDeposited { net_amount, .. } => net_amount,
+            _ => Amount::ZERO,
+        }
+    }
+
+    #[tactic(auto, unfolding(crate::specs::Event::written_fields))]
     fn fields(self) -> Fields
         ensures { written_fields result ≡ fields_of self }
     {
-        let none = Amount::ZERO;
-        match self {
-            Event::Initialized {
-                owner,
-                token,
-                max_limit,
-            } => Fields::new(1, owner, token, false, [max_limit, none, none]),
-            Event::Deposited {
-                from,
-                amount,
-                new_balance,
-            } => Fields::new(2, from, 0, false, [amount, new_balance, none]),
-            Event::TokenDeposited {
-                from,
-                gross_amount,
-                fee_amount,
-                net_amount,
-            } => Fields::new(3, from, 0, false, [gross_amount, fee_amount, net_amount]),
-            Event::Withdrawn {
-                caller,
-                to,
-                amount,
-                new_balance,
-                by_operator,
-            } => Fields::new(4, caller, to, by_operator, [amount, new_balance, none]),
-            Event::LimitSet {
-                caller,
-                old_limit,
-                new_limit,
-            } => Fields::new(5, caller, 0, false, [old_limit, new_limit, none]),
-            Event::OperatorWithdrawLimitSet {
-                caller,
-                old_limit,
-                new_limit,
-            } => Fields::new(6, caller, 0, false, [old_limit, new_limit, none]),
-            Event::OperatorSet { caller, operator } => Fields::new(
-                7,
-                caller,
-                operator,
-                false,
-                [none, none, none],
-            ),
-            Event::OperatorRevoked { caller } => Fields::new(
-                8,
-                caller,
-                0,
-                false,
-                [none, none, none],
-            ),
-            Event::Paused { caller, paused_at } => Fields::new(
-                9,
-                caller,
-                0,
-                false,
-                [Amount::from(paused_at), none, none],
-            ),
-            Event::Unpaused { caller, resumed_at } => Fields::new(
-                10,
-                caller,
-                0,
-                false,
-                [Amount::from(resumed_at), none, none],
-            ),
-            Event::OwnerProposed { caller, new_owner } => Fields::new(
-                11,
-                caller,
-                new_owner,
-                false,
-                [none, none, none],
-            ),
-            Event::OwnerAccepted { caller, old_owner } => Fields::new(
-                12,
-                caller,
-                old_owner,
-                false,
-                [none, none, none],
-            ),
-            Event::OwnerProposalTtlSet {
-                caller,
-                old_ttl,
-                new_ttl,
-            } => Fields::new(
-                13,
-                caller,
-                0,
-                false,
-                [Amount::from(old_ttl), Amount::from(new_ttl), none],
-            ),
-            Event::EmergencyMigrationInitiated {
-                caller,
-                destination,
-                executable_at,
-            } => Fields::new(
-                14,
-                caller,
-                destination,
-                false,
-                [Amount::from(executable_at), none, none],
-            ),
-            Event::EmergencyMigrationExecuted {
-                caller,
-                destination,
-                amount,
-            } => Fields::new(15, caller, destination, false, [amount, none, none]),
-            Event::EmergencyMigrationCancelled { caller } => Fields::new(
-                16,
-                caller,
-                0,
-                false,
-                [none, none, none],
-            ),
-            Event::VaultDepositFailed {
-                from,
-                token,
-                amount,
-            } => Fields::new(
-                17,
-                from,
-                token,
-                false,
-                [amount, Amount::from(TOKEN_REFUSED), none],
-            ),
-            Event::TokenApprovalChanged { token, approved } => Fields::new(
-                18,
-                token,
-                0,
-                approved,
-                [none, none, none],
-            ),
+        Fields {
+            kind: self.kind(),
+            first: self.first(),
+            second: self.second(),
+            yes: self.yes(),
+            numbers: [self.number0(), self.number1(), self.number2()],
         }
     }
 }
 
-fn put_head(events: &mut [u8], at: usize, fields: Fields)
-    requires { at + 8 ≤ length events.old }
+fn put_head(events: &mut Buffer, at: usize, fields: Fields)
+    requires { at + 8 ≤ 896 }
     ensures { events.new ≡ splice events.old at (event_head (written_fields fields)) }
 {
     fields::put8(events, at, fields.kind);
@@ -272,11 +265,11 @@ fn put_head(events: &mut [u8], at: usize, fields: Fields)
     fields::put32(events, at + 4, 0);
 }
 
-pub fn put_event(events: &mut [u8], i: usize, event: Event)
-    requires { (length events.old ≡ 896) × (i < 16) }
+pub fn put_event(events: &mut Buffer, i: usize, event: Event)
+    requires { i < 16 }
     ensures { events.new ≡ put_event events.old i (fields_of event) }
 {
-    let at = 56 * i;
+    let at = EVENT_LENGTH * i;
     let said = event.fields();
     put_head(events, at, said);
     let numbers = said.numbers;
@@ -285,8 +278,8 @@ pub fn put_event(events: &mut [u8], i: usize, event: Event)
     amount::write_amount(events, at + 40, numbers[2]);
 }
 
-pub fn clear_events(events: &mut [u8])
-    requires { length events.old ≡ 896 }
+#[tactic(auto, using(crate::specs::Buffer::buffer_cleared))]
+pub fn clear_events(events: &mut Buffer)
     ensures { events.new ≡ event_buffer [] }
 {
     fields::clear(events);
@@ -296,7 +289,7 @@ pub fn clear_events(events: &mut [u8])
 pub fn buffer_check(events: &[u8]) -> Result<(), Refusal>
     ensures { code result ≡ buffer_number events.now }
 {
-    if events.len() != 896 {
+    if events.len() != LENGTH {
         return Err(Refusal::InvalidEventBuffer);
     }
     Ok(())

@@ -4,7 +4,7 @@
 ghost use Rattle.std.specs.Prelude.{◌≡◌, ◌+◌, ◌<◌, ◌≤◌, length};
 
 use amount::Amount;
-use events::Event;
+use events::{Buffer, EVENT_LENGTH, Event, LENGTH};
 use refusal::Refusal;
 use std::io;
 
@@ -17,20 +17,21 @@ fn print_bytes(rt: &impl Print, s: &[u8], at: usize, n: usize) -> io::Result<()>
     Ok(())
 }
 
-fn rest_is_zero(s: &[u8], i: usize) -> bool
-    requires { (length s.now ≡ 896) × (i < 16) }
+fn rest_is_zero(buffer: &Buffer, i: usize) -> bool
+    requires { i < 16 }
 {
-    let at = 56 * i;
-    fields::are_zero(s, 0, at) && fields::are_zero(s, at + 56, 840 - at)
+    let at = EVENT_LENGTH * i;
+    let end = at + EVENT_LENGTH;
+    fields::are_zero(buffer, 0, at) && fields::are_zero(buffer, end, LENGTH - end)
 }
 
 fn show(rt: &impl Print, i: usize, e: Event) -> io::Result<()>
     requires { i < 16 }
 {
-    let mut buffer = [255u8; 896];
+    let mut buffer = [255u8; LENGTH];
     events::clear_events(&mut buffer);
     events::put_event(&mut buffer, i, e);
-    print_bytes(rt, &buffer, 56 * i, 56)?;
+    print_bytes(rt, &buffer, EVENT_LENGTH * i, EVENT_LENGTH)?;
     if rest_is_zero(&buffer, i) {
         println!(rt; " rest zero")
     } else {
@@ -66,7 +67,10 @@ fn deposits(rt: &impl Print) -> io::Result<()> {
             fee_amount: Amount::from(9),
             net_amount: Amount::from(1),
         },
-    )?;
+    )
+}
+
+fn withdrawals(rt: &impl Print) -> io::Result<()> {
     show(
         rt,
         3,
@@ -91,7 +95,7 @@ fn deposits(rt: &impl Print) -> io::Result<()> {
     )
 }
 
-fn settings(rt: &impl Print) -> io::Result<()> {
+fn limits(rt: &impl Print) -> io::Result<()> {
     show(
         rt,
         5,
@@ -118,7 +122,10 @@ fn settings(rt: &impl Print) -> io::Result<()> {
             operator: 3,
         },
     )?;
-    show(rt, 8, Event::OperatorRevoked { caller: 2 })?;
+    show(rt, 8, Event::OperatorRevoked { caller: 2 })
+}
+
+fn pauses(rt: &impl Print) -> io::Result<()> {
     show(
         rt,
         9,
@@ -165,7 +172,7 @@ fn owners(rt: &impl Print) -> io::Result<()> {
     )
 }
 
-fn others(rt: &impl Print) -> io::Result<()> {
+fn migrations(rt: &impl Print) -> io::Result<()> {
     show(
         rt,
         14,
@@ -184,7 +191,10 @@ fn others(rt: &impl Print) -> io::Result<()> {
             amount: Amount::from(100),
         },
     )?;
-    show(rt, 0, Event::EmergencyMigrationCancelled { caller: 2 })?;
+    show(rt, 0, Event::EmergencyMigrationCancelled { caller: 2 })
+}
+
+fn tokens(rt: &impl Print) -> io::Result<()> {
     show(
         rt,
         1,
@@ -222,13 +232,16 @@ fn check_length(rt: &impl Print, check: Result<(), Refusal>) -> io::Result<()> {
 
 fn main(rt: HostRuntime) -> io::Result<()> {
     deposits(&rt)?;
-    settings(&rt)?;
+    withdrawals(&rt)?;
+    limits(&rt)?;
+    pauses(&rt)?;
     owners(&rt)?;
-    others(&rt)?;
-    let whole = [0u8; 896];
+    migrations(&rt)?;
+    tokens(&rt)?;
+    let whole = [0u8; LENGTH];
     check_length(&rt, events::buffer_check(&whole))?;
-    let short = [0u8; 895];
+    let short = [0u8; LENGTH - 1];
     check_length(&rt, events::buffer_check(&short))?;
-    let long = [0u8; 897];
+    let long = [0u8; LENGTH + 1];
     check_length(&rt, events::buffer_check(&long))
 }

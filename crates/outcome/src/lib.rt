@@ -8,7 +8,7 @@ ghost use Rattle.events.specs.Kinds.{fields_of};
 ghost use Rattle.outcome.specs.Outcome.{Announced};
 
 use amount::Amount;
-use events::Event;
+use events::{Buffer, Event};
 use refusal::Refusal;
 
 #[derive(Clone, Copy, Debug, PartialEq, Eq)]
@@ -21,6 +21,7 @@ pub type Answer = Result<Done, Refusal>;
 
 impl Done {
     // Done with no value.
+    #[tactic(auto, using(amount::specs::Order::biased_zero))]
     pub fn new(events: u8) -> Done
         ensures { (biased result.value ≡ bias) × (result.events ≡ events) }
     {
@@ -39,7 +40,7 @@ impl Done {
 }
 
 // Done with no value and one event.
-pub fn announce(events: &mut [u8], event: Event) -> Done
+pub fn announce(events: &mut Buffer, event: Event) -> Done
     requires { events.old ≡ event_buffer [] }
     ensures { Announced (fields_of event) result events.new }
 {
@@ -48,7 +49,7 @@ pub fn announce(events: &mut [u8], event: Event) -> Done
 }
 
 // Done with a value and one event.
-pub fn announce_value(events: &mut [u8], event: Event, value: Amount) -> Done
+pub fn announce_value(events: &mut Buffer, event: Event, value: Amount) -> Done
     requires { events.old ≡ event_buffer [] }
     ensures { (biased result.value ≡ biased value) × (result.events ≡ 1) × (events.new ≡ event_buffer (fields_of event ∷ [])) }
 {

@@ -5,9 +5,9 @@ use native.Mathlib.Omega.{arith}
 use mathlib.Core.Path.{refl}
 use Rattle.events.proofs.buffer_check.Goals as goal
 
-pub returns-then-events-ne896 : goal.returns-then-events-ne896
+pub returns-then-events-ne-LENGTH : goal.returns-then-events-ne-LENGTH
 unfolding buffer_number
-returns-then-events-ne896 c = stop_at _ 0 _ (omega arith) refl
+returns-then-events-ne-LENGTH c = stop_at _ 0 _ (omega arith) refl
 
 pub returns : goal.returns
 unfolding buffer_number

@@ -1,13 +1,9 @@
 -- `outcome::announce_value` meets its contract.
-use Rattle.outcome.specs.Outcome.{blank_long}
 use Rattle.events.specs.Buffer.{appended}
 use native.Mathlib.Omega.{arith}
 use mathlib.Core.List.{[]}
 use mathlib.Core.Path.{refl}
 use Rattle.outcome.proofs.announce_value.Goals as goal
-
-pub put_event-requires : goal.put_event-requires
-put_event-requires c = (blank_long c.requires, omega arith)
 
 pub returns : goal.returns
 returns c = (refl, refl, appended [] 0 c.requires refl c.put_event.ensures refl (omega arith))
