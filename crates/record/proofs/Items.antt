@@ -14,10 +14,6 @@ module _ (reads : Bool) (n : ℕ) (within : Bool) where
   unfolding ◌or◌
   many e h = rw (e, true_and, lt-ltb 16 n h)
 
-  pub read_within : reads ≡ true → n ≤ 16 → within ≡ true → false ≡ reads and (ltb 16 n or not within)
+  pub few : reads ≡ true → n ≤ 16 → not within ≡ reads and (ltb 16 n or not within)
   unfolding ◌or◌
-  read_within e h f = rw (e, true_and, le-ltb 16 n h, f)
-
-  pub read_beyond : reads ≡ true → n ≤ 16 → within ≡ false → true ≡ reads and (ltb 16 n or not within)
-  unfolding ◌or◌
-  read_beyond e h f = rw (e, true_and, le-ltb 16 n h, f)
+  few e h = rw (e, true_and, le-ltb 16 n h)

@@ -1,3 +1,3 @@
 -- Laws that the proofs of several functions cite.
-pub mod Arms
+pub mod Bytes
 pub mod Items

@@ -1,5 +1,7 @@
 -- The number of each operation, and the operation of each number; no two operations have one number.
-use Rattle.std.specs.Prelude.{◌≡◌, refl, List, [], ◌∷◌, ℕ, zero, suc, Option, Some, None}
+use Rattle.std.specs.Prelude.{◌≡◌, refl, List, [], ◌∷◌, Bool, true, ◌&&◌, ℕ, zero, suc, ◌+◌, ◌<◌, ◌≤◌, eqb, length, Option, Some, None}
+use Rattle.std.proofs.Common.{arith, eqb-true, ap, sym, ◌∙◌}
+use Rattle.fields.specs.Rules.{and_left, and_right}
 use Rattle.record.specs.declared.operation.Operation.{Operation}
 use Rattle.record.specs.declared.operation.Operation.TheVariants.{Initialize, Deposit, DepositWithFee, BatchDeposit, Withdraw, WithdrawBatch, DepositToken, WithdrawToken, DepositWithFailureReport, SetOperatorWithdrawLimit, SetLimit, SetTokenMaxLimit, SetOperator, RevokeOperator, ProposeOwner, AcceptOwner, SetOwnerProposalTtl, Pause, Unpause, ApproveToken, InitiateEmergencyMigration, ExecuteEmergencyMigration, CancelEmergencyMigration, View, OutsideMove, Freeze}
 use Rattle.record.specs.declared.operation.View.TheVariants.{Balance, EffectiveWithdrawLimit, GetTokenAccountBalance, IsTokenApproved, IsTokenCompliant}
@@ -79,35 +81,83 @@ unfoldable pub operation_at : ℕ → Option Operation
 operation_at zero = None
 operation_at (suc n) = operation_in all_operations n
 
-pub operation-at-number : (o : Operation) → operation_at (operation_number o) ≡ Some o
+pub operation_at_number : (o : Operation) → operation_at (operation_number o) ≡ Some o
 unfolding operation_at
-operation-at-number Initialize = refl
-operation-at-number Deposit = refl
-operation-at-number DepositWithFee = refl
-operation-at-number BatchDeposit = refl
-operation-at-number Withdraw = refl
-operation-at-number WithdrawBatch = refl
-operation-at-number DepositToken = refl
-operation-at-number WithdrawToken = refl
-operation-at-number DepositWithFailureReport = refl
-operation-at-number SetOperatorWithdrawLimit = refl
-operation-at-number SetLimit = refl
-operation-at-number SetTokenMaxLimit = refl
-operation-at-number SetOperator = refl
-operation-at-number RevokeOperator = refl
-operation-at-number ProposeOwner = refl
-operation-at-number AcceptOwner = refl
-operation-at-number SetOwnerProposalTtl = refl
-operation-at-number Pause = refl
-operation-at-number Unpause = refl
-operation-at-number ApproveToken = refl
-operation-at-number InitiateEmergencyMigration = refl
-operation-at-number ExecuteEmergencyMigration = refl
-operation-at-number CancelEmergencyMigration = refl
-operation-at-number (View Balance) = refl
-operation-at-number (View EffectiveWithdrawLimit) = refl
-operation-at-number (View GetTokenAccountBalance) = refl
-operation-at-number (View IsTokenApproved) = refl
-operation-at-number (View IsTokenCompliant) = refl
-operation-at-number OutsideMove = refl
-operation-at-number Freeze = refl
+operation_at_number Initialize = refl
+operation_at_number Deposit = refl
+operation_at_number DepositWithFee = refl
+operation_at_number BatchDeposit = refl
+operation_at_number Withdraw = refl
+operation_at_number WithdrawBatch = refl
+operation_at_number DepositToken = refl
+operation_at_number WithdrawToken = refl
+operation_at_number DepositWithFailureReport = refl
+operation_at_number SetOperatorWithdrawLimit = refl
+operation_at_number SetLimit = refl
+operation_at_number SetTokenMaxLimit = refl
+operation_at_number SetOperator = refl
+operation_at_number RevokeOperator = refl
+operation_at_number ProposeOwner = refl
+operation_at_number AcceptOwner = refl
+operation_at_number SetOwnerProposalTtl = refl
+operation_at_number Pause = refl
+operation_at_number Unpause = refl
+operation_at_number ApproveToken = refl
+operation_at_number InitiateEmergencyMigration = refl
+operation_at_number ExecuteEmergencyMigration = refl
+operation_at_number CancelEmergencyMigration = refl
+operation_at_number (View Balance) = refl
+operation_at_number (View EffectiveWithdrawLimit) = refl
+operation_at_number (View GetTokenAccountBalance) = refl
+operation_at_number (View IsTokenApproved) = refl
+operation_at_number (View IsTokenCompliant) = refl
+operation_at_number OutsideMove = refl
+operation_at_number Freeze = refl
+
+-- ---- and back: the operation of a number has it, and each number from 1 to 30 is one
+abbrev numbered : ℕ → List Operation → Bool
+numbered k [] = true
+numbered k (o ∷ os) = eqb (operation_number o) k && numbered (suc k) os
+
+numbered-in : (k : ℕ) (os : List Operation) (n : ℕ) (o : Operation) → numbered k os ≡ true → operation_in os n ≡ Some o → operation_number o ≡ k + n
+numbered-in k [] n o e f = absurd (cc)
+numbered-in k (x ∷ os) zero o e f =
+    let g = eqb-true (operation_number x) k (and_left (eqb (operation_number x) k) (numbered (suc k) os) e) in
+    let h : x ≡ o = cc in
+    rw (← h) (omega (arith, g))
+numbered-in k (x ∷ os) (suc n) o e f =
+    let g = numbered-in (suc k) os n o (and_right (eqb (operation_number x) k) (numbered (suc k) os) e) f in
+    omega (arith, g)
+
+pub number_of_operation_at : (n : ℕ) (o : Operation) → operation_at n ≡ Some o → operation_number o ≡ n
+unfolding operation_at
+number_of_operation_at zero o f = absurd (cc)
+number_of_operation_at (suc n) o f = let g = numbered-in 1 all_operations n o refl f in omega (arith, g)
+
+past-in : (os : List Operation) (n : ℕ) → length os ≤ n → operation_in os n ≡ None
+past-in [] n h = refl
+past-in (o ∷ os) zero h = absurd (omega arith)
+past-in (o ∷ os) (suc n) h = past-in os n (omega arith)
+
+none-in : (os : List Operation) (n : ℕ) → operation_in os n ≡ None → length os ≤ n
+none-in [] n e = omega arith
+none-in (o ∷ os) zero e = absurd (cc)
+none-in (o ∷ os) (suc n) e = let g = none-in os n e in omega (arith, g)
+
+pub no_operation_at : (n : ℕ) → (1 ≤ n → 30 < n) → operation_at n ≡ None
+unfolding operation_at
+no_operation_at zero h = refl
+no_operation_at (suc n) h = past-in all_operations n (let g = h (omega arith) in omega (arith, g))
+
+pub number_of_none : (n : ℕ) → operation_at n ≡ None → 1 ≤ n → 30 < n
+unfolding operation_at
+number_of_none zero e h = absurd (omega arith)
+number_of_none (suc n) e h = let g = none-in all_operations n e in omega (arith, g)
+
+-- no two operations have one number
+abbrev or_operation : Operation → Option Operation → Operation
+or_operation o None = o
+or_operation o (Some p) = p
+
+pub number_distinct : (o p : Operation) → operation_number o ≡ operation_number p → o ≡ p
+number_distinct o p e = ap (or_operation o) (sym (operation_at_number o) ∙ ap operation_at e ∙ operation_at_number p)

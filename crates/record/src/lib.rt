@@ -53,6 +53,7 @@ pub struct Head {
     pub fee: Amount,
 }
 
+#[tactic(auto, using(crate::proofs::Bytes::byte_read))]
 pub fn item_address(rec: &Record, i: usize) -> u8
     requires { i < 16 }
     ensures { result ≡ item_address rec.now i }
@@ -105,6 +106,7 @@ fn items_exceed(rec: &Record, operation: Operation) -> bool
     operation.reads_items() && (count > 16 || !items_within(rec, count as usize))
 }
 
+#[tactic(auto, using(crate::proofs::Bytes::byte_read))]
 fn read_head(rec: &Record, operation: Operation) -> Head
     requires { operation_number operation ≡ operation_of rec.now }
     ensures { HeadOf rec.now result }

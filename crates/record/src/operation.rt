@@ -50,6 +50,7 @@ impl TryFrom<u8> for Operation {
 
     ghost try_from_gives = { λ n r. r ≡ ok_or (operation_at n) InvalidRecord };
 
+    #[tactic(auto, unfolding(crate::specs::Numbers::operation_at))]
     fn try_from(number: u8) -> Result<Operation, Refusal> {
         match number {
             1 => Ok(Operation::Initialize),
@@ -87,6 +88,7 @@ impl TryFrom<u8> for Operation {
     }
 }
 
+#[tactic(auto, unfolding(crate::specs::Form::reads_caller, crate::specs::Form::reads_token, crate::specs::Form::reads_other, crate::specs::Form::reads_flag, crate::specs::Form::reads_items, crate::specs::Form::member, crate::specs::Numbers::operation_at), using(crate::specs::Numbers::operation_at_number))]
 impl Operation {
     pub(crate) fn reads_caller(self) -> bool
         ensures { result ≡ reads_caller (operation_number self) }

@@ -1,0 +1,22 @@
+-- `record::items_exceed` meets its contract.
+use Rattle.record.proofs.Items.{unread, many, few}
+use Rattle.record.proofs.Bytes.{byte_read}
+use Rattle.record.specs.Form.{reads_items, items_within, items_exceed}
+use Rattle.record.specs.Record.{operation_of, item_count_of}
+use native.Mathlib.Omega.{arith}
+use Rattle.record.proofs.items_exceed.Goals as goal
+
+pub returns-then-count-gt16 : goal.returns-then-count-gt16
+unfolding items_exceed
+returns-then-count-gt16 c = let l = c.args.rec.now in let e = byte_read l 5 in
+    rw c.if-count-gt16.true (many (reads_items (operation_of l)) (item_count_of l) (items_within l (item_count_of l)) cc (omega arith))
+
+pub returns-else-count-gt16 : goal.returns-else-count-gt16
+unfolding items_exceed
+returns-else-count-gt16 c = let l = c.args.rec.now in
+    rw (c.items_within.ensures, byte_read l 5) (few (reads_items (operation_of l)) (item_count_of l) (items_within l (item_count_of l)) cc (omega (arith, byte_read l 5)))
+
+pub returns-else-reads_items : goal.returns-else-reads_items
+unfolding items_exceed
+returns-else-reads_items c = let l = c.args.rec.now in
+    rw c.if-reads_items.false (unread (reads_items (operation_of l)) (item_count_of l) (items_within l (item_count_of l)) cc)
