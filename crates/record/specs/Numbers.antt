@@ -149,6 +149,20 @@ unfolding operation_at
 no_operation_at zero h = refl
 no_operation_at (suc n) h = past-in all_operations n (let g = h (omega arith) in omega (arith, g))
 
+-- a number of an operation is one from 1 to 30
+some-in : (os : List Operation) (n : ℕ) (o : Operation) → operation_in os n ≡ Some o → n < length os
+some-in [] n o e = absurd (cc)
+some-in (x ∷ os) zero o e = omega arith
+some-in (x ∷ os) (suc n) o e = let g = some-in os n o e in omega (arith, g)
+
+some-from : (n : ℕ) (o : Operation) → operation_at n ≡ Some o → (1 ≤ n) × (n ≤ 30)
+unfolding operation_at
+some-from zero o e = absurd (cc)
+some-from (suc n) o e = let g = some-in all_operations n o e in (omega arith, omega (arith, g))
+
+pub number_bounds : (o : Operation) → (1 ≤ operation_number o) × (operation_number o ≤ 30)
+number_bounds o = some-from (operation_number o) o (operation_at_number o)
+
 pub number_of_none : (n : ℕ) → operation_at n ≡ None → 1 ≤ n → 30 < n
 unfolding operation_at
 number_of_none zero e h = absurd (omega arith)

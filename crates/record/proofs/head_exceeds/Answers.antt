@@ -6,7 +6,7 @@ use Rattle.record.proofs.head_exceeds.Goals as goal
 
 pub returns : goal.returns
 unfolding head_exceeds
-returns c = simp (or_is, or_assoc, byte_read) (rw (
+returns c = let l = c.args.rec.now in simp (or_is, or_assoc) (rw (
   c.exceeds-a.ensures,
   c.exceeds-b.ensures,
   c.exceeds-c.ensures,
@@ -16,4 +16,8 @@ returns c = simp (or_is, or_assoc, byte_read) (rw (
   c.reads_other.ensures,
   c.reads_flag.ensures,
   c.requires,
+  byte_read l 1,
+  byte_read l 2,
+  byte_read l 3,
+  byte_read l 4,
 ))

@@ -9,14 +9,14 @@ use Rattle.record.proofs.items_exceed.Goals as goal
 pub returns-then-count-gt16 : goal.returns-then-count-gt16
 unfolding items_exceed
 returns-then-count-gt16 c = let l = c.args.rec.now in let e = byte_read l 5 in
-    rw c.if-count-gt16.true (many (reads_items (operation_of l)) (item_count_of l) (items_within l (item_count_of l)) cc (omega arith))
+    rw e (many (reads_items (operation_of l)) (item_count_of l) (items_within l (item_count_of l)) (cc) (omega (arith, e)))
 
 pub returns-else-count-gt16 : goal.returns-else-count-gt16
 unfolding items_exceed
-returns-else-count-gt16 c = let l = c.args.rec.now in
-    rw (c.items_within.ensures, byte_read l 5) (few (reads_items (operation_of l)) (item_count_of l) (items_within l (item_count_of l)) cc (omega (arith, byte_read l 5)))
+returns-else-count-gt16 c = let l = c.args.rec.now in let e = byte_read l 5 in
+    rw (c.items_within.ensures, e) (few (reads_items (operation_of l)) (item_count_of l) (items_within l (item_count_of l)) (cc) (omega (arith, e)))
 
 pub returns-else-reads_items : goal.returns-else-reads_items
 unfolding items_exceed
 returns-else-reads_items c = let l = c.args.rec.now in
-    rw c.if-reads_items.false (unread (reads_items (operation_of l)) (item_count_of l) (items_within l (item_count_of l)) cc)
+    rw (c.reads_items.ensures, c.requires) (unread (reads_items (operation_of l)) (item_count_of l) (items_within l (item_count_of l)) (cc))
