@@ -1,3 +1,5 @@
 -- Laws that the proofs of several functions cite.
-pub mod Arms
+pub mod Bytes
+pub mod Decoded
+pub mod Form
 pub mod Items

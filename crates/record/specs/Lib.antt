@@ -2,3 +2,6 @@
 pub mod Record
 pub mod Form
 pub mod Laws
+pub mod Views
+pub mod Numbers
+pub mod Head

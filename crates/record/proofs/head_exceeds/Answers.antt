@@ -1,22 +1,23 @@
 -- `record::head_exceeds` meets its contract.
 use Rattle.record.specs.Form.{head_exceeds}
+use Rattle.record.proofs.Bytes.{byte_read}
 use Rattle.fields.specs.Logic.{or_is, or_assoc}
 use Rattle.record.proofs.head_exceeds.Goals as goal
 
 pub returns : goal.returns
 unfolding head_exceeds
-returns c = simp (or_is, or_assoc) (rw (
+returns c = let l = c.args.rec.now in simp (or_is, or_assoc) (rw (
   c.exceeds-a.ensures,
   c.exceeds-b.ensures,
   c.exceeds-c.ensures,
   c.exceeds-d.ensures,
   c.reads_caller.ensures,
-  c.caller.ensures,
   c.reads_token.ensures,
-  c.token.ensures,
   c.reads_other.ensures,
-  c.other.ensures,
   c.reads_flag.ensures,
-  c.flag.ensures,
-  c.operation-o.ensures,
+  c.requires,
+  byte_read l 1,
+  byte_read l 2,
+  byte_read l 3,
+  byte_read l 4,
 ))

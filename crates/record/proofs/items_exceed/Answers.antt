@@ -1,5 +1,6 @@
 -- `record::items_exceed` meets its contract.
-use Rattle.record.proofs.Items.{unread, many, read_within, read_beyond}
+use Rattle.record.proofs.Items.{unread, many, few}
+use Rattle.record.proofs.Bytes.{byte_read}
 use Rattle.record.specs.Form.{reads_items, items_within, items_exceed}
 use Rattle.record.specs.Record.{operation_of, item_count_of}
 use native.Mathlib.Omega.{arith}
@@ -7,16 +8,15 @@ use Rattle.record.proofs.items_exceed.Goals as goal
 
 pub returns-then-count-gt16 : goal.returns-then-count-gt16
 unfolding items_exceed
-returns-then-count-gt16 c = let l = c.args.rec.now in many (reads_items (operation_of l)) (item_count_of l) (items_within l (item_count_of l)) (cc) (omega arith)
+returns-then-count-gt16 c = let l = c.args.rec.now in let e = byte_read l 5 in
+    rw e (many (reads_items (operation_of l)) (item_count_of l) (items_within l (item_count_of l)) (cc) (omega (arith, e)))
 
-pub returns-then-items_within : goal.returns-then-items_within
+pub returns-else-count-gt16 : goal.returns-else-count-gt16
 unfolding items_exceed
-returns-then-items_within c = let l = c.args.rec.now in read_within (reads_items (operation_of l)) (item_count_of l) (items_within l (item_count_of l)) (cc) (omega arith) (cc)
+returns-else-count-gt16 c = let l = c.args.rec.now in let e = byte_read l 5 in
+    rw (c.items_within.ensures, e) (few (reads_items (operation_of l)) (item_count_of l) (items_within l (item_count_of l)) (cc) (omega (arith, e)))
 
-pub returns-then-reads_items : goal.returns-then-reads_items
+pub returns-else-reads_items : goal.returns-else-reads_items
 unfolding items_exceed
-returns-then-reads_items c = let l = c.args.rec.now in read_beyond (reads_items (operation_of l)) (item_count_of l) (items_within l (item_count_of l)) (cc) (omega arith) (cc)
-
-pub returns : goal.returns
-unfolding items_exceed
-returns c = let l = c.args.rec.now in unread (reads_items (operation_of l)) (item_count_of l) (items_within l (item_count_of l)) (cc)
+returns-else-reads_items c = let l = c.args.rec.now in
+    rw (c.reads_items.ensures, c.requires) (unread (reads_items (operation_of l)) (item_count_of l) (items_within l (item_count_of l)) (cc))
