@@ -58,6 +58,10 @@ pub set_bit : {n : ℕ} (t : Bool) → num t ≡ n → t ≡ not (eqb n 0)
 set_bit true e = rw (← e) refl
 set_bit false e = rw (← e) refl
 
+pub one_bit : {n : ℕ} (t : Bool) → num t ≡ n → t ≡ eqb n 1
+one_bit true e = rw (← e) refl
+one_bit false e = rw (← e) refl
+
 pub clear_bit : {n : ℕ} (t : Bool) → num t ≡ n → not t ≡ not (eqb n 1)
 clear_bit true e = rw (← e) refl
 clear_bit false e = rw (← e) refl

@@ -1,15 +1,10 @@
 -- `settings::not_paused_check` meets its contract.
-use Rattle.amount.specs.Laws.{num_true, num_false}
+use Rattle.std.proofs.Common.{◌∙◌}
+use Rattle.fields.specs.Rules.{only}
+use Rattle.checks.specs.Passed.{clear_bit}
 use Rattle.settings.specs.Settings.{not_paused_number}
-use Rattle.fields.specs.Rules.{stop_at}
-use native.Mathlib.Omega.{arith}
-use mathlib.Core.Path.{refl}
 use Rattle.settings.proofs.not_paused_check.Goals as goal
-
-pub returns-then-not-has_flag : goal.returns-then-not-has_flag
-unfolding not_paused_number
-returns-then-not-has_flag c = stop_at _ 0 _ (omega (arith, num_false c.has_flag.ensures c.if-not-has_flag.true)) refl
 
 pub returns : goal.returns
 unfolding not_paused_number
-returns c = stop_at _ 1 _ (omega (arith, num_true c.has_flag.ensures c.if-not-has_flag.false)) refl
+returns c = c.refuse_if.ensures ∙ only _ 19 (clear_bit _ c.has_flag.ensures)

@@ -1,13 +1,14 @@
 -- `settings::pause` meets its contract.
-use Rattle.outcome.specs.FormedLaws.{caller_in}
-use Rattle.record.specs.Form.{reads_caller, member}
-use native.Mathlib.Omega.{arith}
 use mathlib.Core.Path.{refl}
+use Rattle.settings.specs.Settings.{pause_outcome}
+use Rattle.outcome.specs.Outcome.{refused, announced}
+use mathlib.Core.Path.{sym}
 use Rattle.settings.proofs.pause.Goals as goal
 
-pub pause_of-requires : goal.pause_of-requires
-unfolding reads_caller member
-pause_of-requires c = let f = c.requires.1 in (c.requires.0, omega (arith, caller_in f refl), c.requires.2)
+pub returns-in_err-pause_check : goal.returns-in_err-pause_check
+unfolding pause_outcome
+returns-in_err-pause_check c = refused _ c.from_residual.ensures c.in_err-pause_check.ensures
 
 pub returns : goal.returns
-returns c = rw (c.caller-caller.ensures, c.signers-signers.ensures, c.timestamp.ensures) at c.pause_of.ensures
+unfolding pause_outcome
+returns c = announced (sym c.in_ok-pause_check.ensures) refl c.announce.ensures (rw c.set_flag.ensures)

@@ -1,13 +1,14 @@
 -- `settings::revoke_operator` meets its contract.
-use Rattle.outcome.specs.FormedLaws.{caller_in}
-use Rattle.record.specs.Form.{reads_caller, member}
-use native.Mathlib.Omega.{arith}
 use mathlib.Core.Path.{refl}
+use Rattle.settings.specs.Settings.{operator_revoked_outcome}
+use Rattle.outcome.specs.Outcome.{refused, announced}
+use mathlib.Core.Path.{sym}
 use Rattle.settings.proofs.revoke_operator.Goals as goal
 
-pub revoke_operator_of-requires : goal.revoke_operator_of-requires
-unfolding reads_caller member
-revoke_operator_of-requires c = let f = c.requires.1 in (c.requires.0, omega (arith, caller_in f refl), c.requires.2)
+pub returns-in_err-owner_gate : goal.returns-in_err-owner_gate
+unfolding operator_revoked_outcome
+returns-in_err-owner_gate c = refused _ c.from_residual.ensures c.in_err-owner_gate.ensures
 
 pub returns : goal.returns
-returns c = rw (c.caller-caller.ensures, c.signers.ensures) at c.revoke_operator_of.ensures
+unfolding operator_revoked_outcome
+returns c = announced (sym c.in_ok-owner_gate.ensures) refl c.announce.ensures (rw (c.put8.ensures, c.clear_flag.ensures))

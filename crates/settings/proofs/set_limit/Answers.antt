@@ -1,13 +1,13 @@
 -- `settings::set_limit` meets its contract.
-use Rattle.outcome.specs.FormedLaws.{caller_in}
-use Rattle.record.specs.Form.{reads_caller, member}
-use native.Mathlib.Omega.{arith}
-use mathlib.Core.Path.{refl}
+use Rattle.settings.specs.Settings.{limit_set_outcome}
+use Rattle.outcome.specs.Outcome.{refused, announced}
+use mathlib.Core.Path.{sym}
 use Rattle.settings.proofs.set_limit.Goals as goal
 
-pub set_limit_of-requires : goal.set_limit_of-requires
-unfolding reads_caller member
-set_limit_of-requires c = let f = c.requires.1 in (c.requires.0, omega (arith, caller_in f refl), c.requires.2)
+pub returns-in_err-limit_check : goal.returns-in_err-limit_check
+unfolding limit_set_outcome
+returns-in_err-limit_check c = refused _ c.from_residual.ensures c.in_err-limit_check.ensures
 
 pub returns : goal.returns
-returns c = rw (c.caller-caller.ensures, c.signers-signers.ensures, c.amount.ensures) at c.set_limit_of.ensures
+unfolding limit_set_outcome
+returns c = announced (sym c.in_ok-limit_check.ensures) (rw c.read_amount-old.ensures) c.announce.ensures (rw c.write_amount.ensures)

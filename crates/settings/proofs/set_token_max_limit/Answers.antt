@@ -1,13 +1,15 @@
 -- `settings::set_token_max_limit` meets its contract.
-use Rattle.outcome.specs.FormedLaws.{caller_in, token_in}
-use Rattle.record.specs.Form.{reads_caller, reads_token, member}
-use native.Mathlib.Omega.{arith}
-use mathlib.Core.Path.{refl}
+use Rattle.settings.specs.Settings.{token_max_limit_outcome}
+use Rattle.outcome.specs.Outcome.{refused, accepted}
+use Rattle.amount.specs.Biased.{bias}
+use native.Mathlib.Nat.{add-zero}
+use mathlib.Core.Path.{sym, ◌∙◌}
 use Rattle.settings.proofs.set_token_max_limit.Goals as goal
 
-pub set_token_max_limit_of-requires : goal.set_token_max_limit_of-requires
-unfolding reads_caller reads_token member
-set_token_max_limit_of-requires c = let f = c.requires.1 in (c.requires.0, omega (arith, caller_in f refl), omega (arith, token_in f refl), c.requires.2)
+pub returns-in_err-token_max_limit_check : goal.returns-in_err-token_max_limit_check
+unfolding token_max_limit_outcome
+returns-in_err-token_max_limit_check c = refused _ c.from_residual.ensures c.in_err-token_max_limit_check.ensures
 
 pub returns : goal.returns
-returns c = rw (c.caller-caller.ensures, c.signers-signers.ensures, c.token-t.ensures, c.amount.ensures) at c.set_token_max_limit_of.ensures
+unfolding token_max_limit_outcome
+returns c = let d = c.new.ensures in accepted (sym c.in_ok-token_max_limit_check.ensures) (d.0 ∙ sym (add-zero bias)) d.1 (rw c.from.ensures at c.set_token_max_limit.ensures) c.requires.2

@@ -1,13 +1,14 @@
 -- `settings::unpause` meets its contract.
-use Rattle.outcome.specs.FormedLaws.{caller_in}
-use Rattle.record.specs.Form.{reads_caller, member}
-use native.Mathlib.Omega.{arith}
 use mathlib.Core.Path.{refl}
+use Rattle.settings.specs.Settings.{unpause_outcome}
+use Rattle.outcome.specs.Outcome.{refused, announced}
+use mathlib.Core.Path.{sym}
 use Rattle.settings.proofs.unpause.Goals as goal
 
-pub unpause_of-requires : goal.unpause_of-requires
-unfolding reads_caller member
-unpause_of-requires c = let f = c.requires.1 in (c.requires.0, omega (arith, caller_in f refl), c.requires.2)
+pub returns-in_err-unpause_check : goal.returns-in_err-unpause_check
+unfolding unpause_outcome
+returns-in_err-unpause_check c = refused _ c.from_residual.ensures c.in_err-unpause_check.ensures
 
 pub returns : goal.returns
-returns c = rw (c.caller-caller.ensures, c.signers-signers.ensures, c.timestamp.ensures) at c.unpause_of.ensures
+unfolding unpause_outcome
+returns c = announced (sym c.in_ok-unpause_check.ensures) refl c.announce.ensures (rw c.clear_flag.ensures)
