@@ -1,9 +1,10 @@
 // Refusal 32: lengths, operations, the bounds of each field, and the fields that each operation reads; then the fields of one record.
 #![tactic(auto)]
 
-ghost use Rattle.std.specs.Prelude.{◌≡◌, ◌<◌, length};
+ghost use Rattle.std.specs.Prelude.{◌<◌};
 
 use amount::Amount;
+use record::{Head, Operation, Record};
 use refusal::Refusal;
 use std::fmt::Display;
 use std::io;
@@ -17,25 +18,31 @@ fn end(rt: &impl Print) -> io::Result<()> {
 }
 
 // The number of a refusal, and 0 where there is none.
-fn code(form: Result<(), Refusal>) -> u8 {
-    match form {
-        Ok(()) => 0,
+fn code(answer: Result<Head, Refusal>) -> u8 {
+    match answer {
+        Ok(_) => 0,
         Err(refusal) => u8::from(refusal),
     }
 }
 
 // The number of a record of zeros but for the operation and one byte.
-fn form_of(rec: &mut [u8], operation: u8, at: usize, value: u8) -> u8
-    requires { (length rec.old ≡ 448) × (at < 448) }
+fn form_of(rec: &mut Record, operation: u8, at: usize, value: u8) -> u8
+    requires { at < 448 }
 {
     fields::clear(rec);
     fields::put8(rec, 0, operation);
     fields::put8(rec, at, value);
-    code(record::form_check(rec))
+    code(record::parse(rec))
 }
 
-fn try_byte(rt: &impl Print, rec: &mut [u8], operation: u8, at: usize, value: u8) -> io::Result<()>
-    requires { (length rec.old ≡ 448) × (at < 448) }
+fn try_byte(
+    rt: &impl Print,
+    rec: &mut Record,
+    operation: u8,
+    at: usize,
+    value: u8,
+) -> io::Result<()>
+    requires { at < 448 }
 {
     let n = form_of(rec, operation, at, value);
     number(rt, n)
@@ -44,25 +51,23 @@ fn try_byte(rt: &impl Print, rec: &mut [u8], operation: u8, at: usize, value: u8
 // The number where item i of the counted ones has the address.
 fn try_item(
     rt: &impl Print,
-    rec: &mut [u8],
+    rec: &mut Record,
     operation: u8,
     count: u8,
     i: usize,
     address: u8,
 ) -> io::Result<()>
-    requires { (length rec.old ≡ 448) × (i < 16) }
+    requires { i < 16 }
 {
     fields::clear(rec);
     fields::put8(rec, 0, operation);
     fields::put8(rec, 5, count);
     fields::put8(rec, 64 + 24 * i, address);
-    let n = code(record::form_check(rec));
+    let n = code(record::parse(rec));
     number(rt, n)
 }
 
-fn operations(rt: &impl Print, rec: &mut [u8]) -> io::Result<()>
-    requires { length rec.old ≡ 448 }
-{
+fn operations(rt: &impl Print, rec: &mut Record) -> io::Result<()> {
     try_byte(rt, rec, 0, 0, 0)?;
     try_byte(rt, rec, 1, 0, 1)?;
     try_byte(rt, rec, 30, 0, 30)?;
@@ -72,9 +77,7 @@ fn operations(rt: &impl Print, rec: &mut [u8]) -> io::Result<()>
 }
 
 // The largest value that each field may have, and one more: addresses, then flag and count.
-fn addresses(rt: &impl Print, rec: &mut [u8]) -> io::Result<()>
-    requires { length rec.old ≡ 448 }
-{
+fn addresses(rt: &impl Print, rec: &mut Record) -> io::Result<()> {
     try_byte(rt, rec, 2, 1, 63)?;
     try_byte(rt, rec, 2, 1, 64)?;
     try_byte(rt, rec, 7, 2, 63)?;
@@ -84,9 +87,7 @@ fn addresses(rt: &impl Print, rec: &mut [u8]) -> io::Result<()>
     end(rt)
 }
 
-fn flag_and_count(rt: &impl Print, rec: &mut [u8]) -> io::Result<()>
-    requires { length rec.old ≡ 448 }
-{
+fn flag_and_count(rt: &impl Print, rec: &mut Record) -> io::Result<()> {
     try_byte(rt, rec, 20, 4, 1)?;
     try_byte(rt, rec, 20, 4, 2)?;
     try_byte(rt, rec, 6, 5, 16)?;
@@ -95,9 +96,7 @@ fn flag_and_count(rt: &impl Print, rec: &mut [u8]) -> io::Result<()>
 }
 
 // The last counted item, one past the count, and an operation that reads no items.
-fn items(rt: &impl Print, rec: &mut [u8]) -> io::Result<()>
-    requires { length rec.old ≡ 448 }
-{
+fn items(rt: &impl Print, rec: &mut Record) -> io::Result<()> {
     try_item(rt, rec, 4, 16, 15, 63)?;
     try_item(rt, rec, 4, 16, 15, 64)?;
     try_item(rt, rec, 6, 1, 0, 64)?;
@@ -109,11 +108,9 @@ fn items(rt: &impl Print, rec: &mut [u8]) -> io::Result<()>
 }
 
 // The operation, whether it is a view, and the numbers where the caller, the token, the other address, the flag and the item count are 255.
-fn row(rt: &impl Print, rec: &mut [u8], operation: u8) -> io::Result<()>
-    requires { length rec.old ≡ 448 }
-{
+fn row(rt: &impl Print, rec: &mut Record, operation: u8) -> io::Result<()> {
     number(rt, operation)?;
-    if record::is_view(operation) {
+    if let Ok(Operation::View(_)) = Operation::try_from(operation) {
         print!(rt; "view ")?;
     }
     try_byte(rt, rec, operation, 1, 255)?;
@@ -124,28 +121,24 @@ fn row(rt: &impl Print, rec: &mut [u8], operation: u8) -> io::Result<()>
     end(rt)
 }
 
-fn rows(rt: &impl Print, rec: &mut [u8]) -> io::Result<()>
-    requires { length rec.old ≡ 448 }
-{
+fn rows(rt: &impl Print, rec: &mut Record) -> io::Result<()> {
     for operation in 1..31 {
         row(rt, rec, operation)?;
     }
     Ok(())
 }
 
-fn small_fields(rt: &impl Print, rec: &[u8]) -> io::Result<()>
-    requires { length rec.now ≡ 448 }
-{
-    number(rt, record::operation(rec))?;
-    number(rt, record::caller(rec))?;
-    number(rt, record::token(rec))?;
-    number(rt, record::other(rec))?;
-    number(rt, record::flag(rec))?;
-    number(rt, record::item_count(rec))?;
-    number(rt, record::timestamp(rec))?;
-    number(rt, record::sequence(rec))?;
-    number(rt, record::signers(rec))?;
-    number(rt, record::time_to_live(rec))?;
+fn small_fields(rt: &impl Print, rec: &Record, head: Head) -> io::Result<()> {
+    number(rt, rec[0])?;
+    number(rt, head.caller)?;
+    number(rt, head.token)?;
+    number(rt, head.other)?;
+    number(rt, rec[4])?;
+    number(rt, head.item_count)?;
+    number(rt, head.timestamp)?;
+    number(rt, head.sequence)?;
+    number(rt, head.signers)?;
+    number(rt, head.time_to_live)?;
     end(rt)
 }
 
@@ -154,11 +147,9 @@ fn low(rt: &impl Print, a: Amount) -> io::Result<()> {
     number(rt, a.0 & i128::from(u64::MAX))
 }
 
-fn amounts(rt: &impl Print, rec: &[u8]) -> io::Result<()>
-    requires { length rec.now ≡ 448 }
-{
-    low(rt, record::amount(rec))?;
-    low(rt, record::fee(rec))?;
+fn amounts(rt: &impl Print, rec: &Record, head: Head) -> io::Result<()> {
+    low(rt, head.amount)?;
+    low(rt, head.fee)?;
     number(rt, record::item_address(rec, 0))?;
     low(rt, record::item_amount(rec, 0))?;
     number(rt, record::item_address(rec, 15))?;
@@ -166,10 +157,19 @@ fn amounts(rt: &impl Print, rec: &[u8]) -> io::Result<()>
     end(rt)
 }
 
+// Operation and flag as they stand, and the rest read as operation 24, which asks nothing of the other fields.
+fn fields_of(rt: &impl Print, rec: &Record) -> io::Result<()> {
+    let mut view = *rec;
+    view[0] = 24;
+    if let Ok(head) = record::parse(&view) {
+        small_fields(rt, rec, head)?;
+        amounts(rt, rec, head)?;
+    }
+    Ok(())
+}
+
 // Byte i of the record is i modulo 251.
-fn fill(rec: &mut [u8])
-    requires { length rec.old ≡ 448 }
-{
+fn fill(rec: &mut Record) {
     for (i, byte) in rec.iter_mut().enumerate() {
         *byte = (i % 251) as u8;
     }
@@ -178,13 +178,13 @@ fn fill(rec: &mut [u8])
 fn lengths(rt: &impl Print) -> io::Result<()> {
     let mut short = [0u8; 447];
     short[0] = 24;
-    number(rt, code(record::form_check(&short)))?;
+    number(rt, code(record::parse(&short)))?;
     let mut long = [0u8; 449];
     long[0] = 24;
-    number(rt, code(record::form_check(&long)))?;
+    number(rt, code(record::parse(&long)))?;
     let mut whole = [0u8; 448];
     whole[0] = 24;
-    number(rt, code(record::form_check(&whole)))?;
+    number(rt, code(record::parse(&whole)))?;
     end(rt)
 }
 
@@ -197,6 +197,5 @@ fn main(rt: HostRuntime) -> io::Result<()> {
     items(&rt, &mut rec)?;
     rows(&rt, &mut rec)?;
     fill(&mut rec);
-    small_fields(&rt, &rec)?;
-    amounts(&rt, &rec)
+    fields_of(&rt, &rec)
 }

@@ -1,6 +1,5 @@
 -- `record::parse` meets its contract.
-use Rattle.std.specs.Prelude.{◌≡◌, ℕ, ◌<◌, get_or}
-use Rattle.std.proofs.Common.{ap, sym, ◌∙◌}
+use Rattle.std.proofs.Common.{sym}
 use Rattle.refusal.specs.Laws.{code_passed}
 use Rattle.record.proofs.Decoded.{decoded, undecoded}
 use Rattle.record.proofs.Form.{other_length, no_operation, head_refused, items_refused, good_form}
