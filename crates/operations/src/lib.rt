@@ -1,60 +1,75 @@
-// The operations by their numbers: `operate` for those that may change the image, `look` for the views.
+// The operations by their names: `operate` for those that may change the image, `look` for the views.
 #![tactic(auto)]
 
-ghost use Rattle.std.specs.Prelude.{◌≡◌, true, false, [], length};
+ghost use Rattle.std.specs.Prelude.{◌≡◌, [], List, ℕ};
 ghost use Rattle.storage.specs.Facts.{Good};
 ghost use Rattle.record.specs.Record.{operation_of};
-ghost use Rattle.record.specs.Form.{form_number, is_view};
+ghost use Rattle.record.specs.Form.{form_number};
+ghost use Rattle.record.specs.Head.{HeadOf};
+ghost use Rattle.record.specs.Views.{view_number};
 ghost use Rattle.events.specs.Event.{event_buffer};
 ghost use Rattle.outcome.specs.Outcome.{Does, Views};
 ghost use Rattle.operations.specs.Operations.{outcome_of};
 
+use events::Buffer;
+use image::Image;
 use outcome::Answer;
+use record::{Head, Operation, Record, View};
 
-pub fn operate(img: &mut [u8], rec: &[u8], events: &mut [u8]) -> Answer
-    requires { Good img.old × (form_number rec.now ≡ 0) × (is_view (operation_of rec.now) ≡ false) × (events.old ≡ event_buffer []) × (length rec.now ≡ 448) }
+pub fn operate(img: &mut Image, rec: &Record, head: Head, events: &mut Buffer) -> Answer
+    requires { Good img.old × (form_number rec.now ≡ 0) × HeadOf rec.now head × (events.old ≡ event_buffer []) }
     ensures { Does (outcome_of img.old rec.now) result img.new events.new }
 {
-    let o = record::operation(rec);
-    match o {
-        1 => setup::initialize(img, rec, events),
-        2 => deposits::deposit(img, rec, events),
-        3 => deposits::deposit_with_fee(img, rec, events),
-        4 => batch_deposits::batch_deposit(img, rec, events),
-        5 => payouts::withdraw(img, rec, events),
-        6 => payouts::withdraw_batch(img, rec, events),
-        7 => deposits::deposit_token(img, rec, events),
-        8 => payouts::withdraw_token(img, rec, events),
-        9 => deposits::deposit_with_failure_report(img, rec, events),
-        10 => settings::set_operator_withdraw_limit(img, rec, events),
-        11 => settings::set_limit(img, rec, events),
-        12 => settings::set_token_max_limit(img, rec, events),
-        13 => settings::set_operator(img, rec, events),
-        14 => settings::revoke_operator(img, rec, events),
-        15 => handover::propose_owner(img, rec, events),
-        16 => handover::accept_owner(img, rec, events),
-        17 => handover::set_owner_proposal_ttl(img, rec, events),
-        18 => settings::pause(img, rec, events),
-        19 => settings::unpause(img, rec, events),
-        20 => setup::approve_token(img, rec, events),
-        21 => migration::initiate_emergency_migration(img, rec, events),
-        22 => migration::execute_emergency_migration(img, rec, events),
-        23 => migration::cancel_emergency_migration(img, rec, events),
-        29 => moves::outside_move(img, rec, events),
-        _ => moves::freeze(img, rec, events),
+    match head.operation {
+        Operation::Initialize => setup::initialize(img, head, events),
+        Operation::Deposit => deposits::deposit(img, head, events),
+        Operation::DepositWithFee => deposits::deposit_with_fee(img, head, events),
+        Operation::BatchDeposit => batch_deposits::batch_deposit(img, rec, head, events),
+        Operation::Withdraw => payouts::withdraw(img, head, events),
+        Operation::WithdrawBatch => payouts::withdraw_batch(img, rec, head, events),
+        Operation::DepositToken => deposits::deposit_token(img, head, events),
+        Operation::WithdrawToken => payouts::withdraw_token(img, head, events),
+        Operation::DepositWithFailureReport => {
+            deposits::deposit_with_failure_report(img, head, events)
+        }
+        Operation::SetOperatorWithdrawLimit => {
+            settings::set_operator_withdraw_limit(img, head, events)
+        }
+        Operation::SetLimit => settings::set_limit(img, head, events),
+        Operation::SetTokenMaxLimit => settings::set_token_max_limit(img, head, events),
+        Operation::SetOperator => settings::set_operator(img, head, events),
+        Operation::RevokeOperator => settings::revoke_operator(img, head, events),
+        Operation::ProposeOwner => handover::propose_owner(img, head, events),
+        Operation::AcceptOwner => handover::accept_owner(img, head, events),
+        Operation::SetOwnerProposalTtl => handover::set_owner_proposal_ttl(img, head, events),
+        Operation::Pause => settings::pause(img, head, events),
+        Operation::Unpause => settings::unpause(img, head, events),
+        Operation::ApproveToken => setup::approve_token(img, head, events),
+        Operation::InitiateEmergencyMigration => {
+            migration::initiate_emergency_migration(img, head, events)
+        }
+        Operation::ExecuteEmergencyMigration => {
+            migration::execute_emergency_migration(img, head, events)
+        }
+        Operation::CancelEmergencyMigration => {
+            migration::cancel_emergency_migration(img, head, events)
+        }
+        Operation::View(view) => look(img, view, head),
+        Operation::OutsideMove => moves::outside_move(img, head, events),
+        Operation::Freeze => moves::freeze(img, head, events),
     }
 }
 
-pub fn look(img: &[u8], rec: &[u8]) -> Answer
-    requires { Good img.now × (form_number rec.now ≡ 0) × (is_view (operation_of rec.now) ≡ true) × (length rec.now ≡ 448) }
-    ensures { Views (outcome_of img.now rec.now) result }
+pub fn look(img: &Image, view: View, head: Head) -> Answer
+    ghost rec: { List ℕ }
+    requires { Good img.now × (form_number rec ≡ 0) × HeadOf rec head × (view_number view ≡ operation_of rec) }
+    ensures { Views (outcome_of img.now rec) result }
 {
-    let o = record::operation(rec);
-    match o {
-        24 => views::balance(img, rec),
-        25 => views::effective_withdraw_limit(img, rec),
-        26 => views::get_token_account_balance(img, rec),
-        27 => views::is_token_approved(img, rec),
-        _ => views::is_token_compliant(img, rec),
+    match view {
+        View::Balance => views::balance(img),
+        View::EffectiveWithdrawLimit => views::effective_withdraw_limit(img, head),
+        View::GetTokenAccountBalance => views::get_token_account_balance(img, head),
+        View::IsTokenApproved => views::is_token_approved(img, head),
+        View::IsTokenCompliant => views::is_token_compliant(img, head),
     }
 }

@@ -1,15 +1,15 @@
 // The token vault: its public calls. Any bytes of any length get an answer.
 #![tactic(auto)]
 
-ghost use Rattle.std.specs.Prelude.{◌≡◌, true, false, length};
-ghost use Rattle.fields.specs.Rules.{pick};
+ghost use Rattle.std.specs.Prelude.{◌≡◌, true, false, IfOk, List, ℕ};
 ghost use Rattle.amount.specs.Biased.{biased};
 ghost use Rattle.events.specs.Splice.{amount_bytes};
-ghost use Rattle.image.specs.Layout.{image_length, cells};
+ghost use Rattle.image.specs.Layout.{cells};
 ghost use Rattle.outcome.specs.Outcome.{value_of, count_of};
 ghost use Rattle.storage.specs.Facts.{Good};
 ghost use Rattle.record.specs.Record.{operation_of};
-ghost use Rattle.record.specs.Form.{is_view};
+ghost use Rattle.record.specs.Head.{HeadOf};
+ghost use Rattle.record.specs.Views.{view_number};
 ghost use Rattle.journal.specs.Calls.{Call};
 ghost use Rattle.journal.specs.Journal.{good_journal};
 ghost use Rattle.journal.specs.Step.{vault, operated};
@@ -20,8 +20,14 @@ ghost use Rattle.token_vault.specs.Cells.{EntersCells};
 ghost use Rattle.token_vault.specs.Preview.{preview_answer, PreviewIs, Previews};
 ghost use Rattle.token_vault.specs.Public.{CallIs, CallAlone, closed_journal, JournalIs, Replies, Answers, Tries, state_number, kept_number, kept_journal, Keeps};
 
+use events::Buffer;
+use image::Image;
 use outcome::{Answer, Done};
+use record::{Head, Operation, Record, View};
 use refusal::Refusal;
+
+// The cells of sixteen bytes of an image.
+const CELLS: usize = 2302;
 
 fn write_done(done: Done, value: &mut [u8; 16], event_count: &mut u32)
     ensures { (value.new ≡ amount_bytes (biased done.value)) × (event_count.new ≡ done.events) }
@@ -36,106 +42,89 @@ fn write_done(done: Done, value: &mut [u8; 16], event_count: &mut u32)
 fn write_answer(answer: Answer, value: &mut [u8; 16], event_count: &mut u32) -> u32
     ensures { (result ≡ code answer) × (value.new ≡ amount_bytes (value_of answer)) × (event_count.new ≡ count_of answer) }
 {
-    match answer {
-        Ok(done) => {
-            write_done(done, value, event_count);
-            0
-        }
-        Err(refusal) => {
-            write_done(Done::new(0), value, event_count);
-            u32::from(u8::from(refusal))
-        }
-    }
+    write_done(answer.unwrap_or(Done::new(0)), value, event_count);
+    refusal::number(&answer)
 }
 
 // A view on good bytes: the event buffer is blank.
-fn run_view(image: &[u8], rec: &[u8], events: &mut [u8]) -> Answer
-    requires { Good image.now × (call_number rec.now events.old ≡ 0) × (is_view (operation_of rec.now) ≡ true) × (length rec.now ≡ 448) × (length events.old ≡ 896) }
-    ensures { Answers (op image.now rec.now events.old).answer result events.new }
+fn run_view(image: &Image, view: View, head: Head, events: &mut Buffer) -> Answer
+    ghost rec: { List ℕ }
+    requires { Good image.now × (call_number rec events.old ≡ 0) × HeadOf rec head × (view_number view ≡ operation_of rec) }
+    ensures { Answers (op image.now rec events.old).answer result events.new }
 {
     events::clear_events(events);
-    operations::look(image, rec)
+    operations::look(image, view, head)
 }
 
 // Any other operation on good bytes, on a copy of the image.
-fn try_operation(copy: &mut [u8], rec: &[u8], events: &mut [u8]) -> Answer
-    requires { Good copy.old × (call_number rec.now events.old ≡ 0) × (is_view (operation_of rec.now) ≡ false) × (length rec.now ≡ 448) × (length events.old ≡ 896) }
+fn try_operation(copy: &mut Image, rec: &Record, head: Head, events: &mut Buffer) -> Answer
+    requires { Good copy.old × (call_number rec.now events.old ≡ 0) × HeadOf rec.now head }
     ensures { Tries (op copy.old rec.now events.old) result copy.new events.new }
 {
     events::clear_events(events);
-    match operations::operate(copy, rec, events) {
-        Ok(done) => Ok(done),
-        Err(refusal) => {
-            events::clear_events(events);
-            Err(refusal)
-        }
+    let answer = operations::operate(copy, rec, head, events);
+    if answer.is_err() {
+        events::clear_events(events);
     }
+    answer
 }
 
 // 34 where an open journal has no room for the cells in which the copy differs from the image; else they are entered. A closed journal stays.
-fn enter_changes(image: &[u8], copy: &[u8], journal: &mut [u8]) -> Result<(), Refusal>
-    requires { (length image.now ≡ image_length) × (length copy.now ≡ image_length) × (good_journal cells journal.old ≡ true) }
+fn enter_changes(image: &Image, copy: &Image, journal: &mut [u8]) -> Result<(), Refusal>
+    requires { good_journal cells journal.old ≡ true }
     ensures { (code result ≡ kept_number image.now copy.now journal.old) × (journal.new ≡ kept_journal image.now copy.now journal.old) }
 {
     if !journal::is_open(journal) {
         return Ok(());
     }
-    journal::enter(image, copy, journal, 2302)
+    journal::enter(image, copy, journal, CELLS)
 }
 
 // What an accepted operation left goes to the image, unless 34 refuses it.
-fn keep(image: &mut [u8], journal: &mut [u8], copy: &[u8]) -> Result<(), Refusal>
-    requires { (length image.old ≡ image_length) × (length copy.now ≡ image_length) × (good_journal cells journal.old ≡ true) }
+fn keep(image: &mut Image, journal: &mut [u8], copy: &Image) -> Result<(), Refusal>
+    requires { good_journal cells journal.old ≡ true }
     ensures { Keeps image.old copy.now journal.old (code result) image.new journal.new }
 {
     enter_changes(image, copy, journal)?;
-    fields::copy_bytes(copy, image);
+    *image = *copy;
     Ok(())
 }
 
-fn run_operation(image: &mut [u8], journal: &mut [u8], rec: &[u8], events: &mut [u8]) -> Answer
-    requires { Good image.old × (good_journal cells journal.old ≡ true) × (call_number rec.now events.old ≡ 0) × (is_view (operation_of rec.now) ≡ false) × (length rec.now ≡ 448) × (length events.old ≡ 896) }
+fn run_operation(
+    image: &mut Image,
+    journal: &mut [u8],
+    rec: &Record,
+    head: Head,
+    events: &mut Buffer,
+) -> Answer
+    requires { Good image.old × (good_journal cells journal.old ≡ true) × (call_number rec.now events.old ≡ 0) × HeadOf rec.now head }
     ensures { Replies (operated cells false (vault image.old journal.old) (op image.old rec.now events.old)) result events.new image.new journal.new }
 {
-    let mut copy = [0u8; 36832];
-    fields::copy_bytes(image, &mut copy);
-    let done = try_operation(&mut copy, rec, events)?;
-    match keep(image, journal, &copy) {
-        Ok(()) => Ok(done),
-        Err(refusal) => {
-            events::clear_events(events);
-            Err(refusal)
-        }
+    let mut copy = *image;
+    let done = try_operation(&mut copy, rec, head, events)?;
+    if let Err(refusal) = keep(image, journal, &copy) {
+        events::clear_events(events);
+        return Err(refusal);
     }
+    Ok(done)
 }
 
-// 30. The test of the image is its caller's, so that the compiler keeps it a function of its own.
-fn image_check(is_image_good: bool) -> Result<(), Refusal>
-    ensures { code result ≡ pick is_image_good 0 30 }
-{
-    if !is_image_good {
-        return Err(Refusal::InvalidImage);
-    }
-    Ok(())
-}
-
-// 30, 31.
+// 30, 31. The test of the image is its caller's, so that the compiler keeps it a function of its own.
 fn state_check(is_image_good: bool, journal: &[u8]) -> Result<(), Refusal>
     ensures { code result ≡ state_number is_image_good journal.now }
 {
-    image_check(is_image_good)?;
-    if !journal::good_journal(journal, 2302) {
-        return Err(Refusal::InvalidJournal);
-    }
-    Ok(())
+    refusal::refuse_if(!is_image_good, Refusal::InvalidImage)?;
+    refusal::refuse_if(!journal::good_journal(journal, CELLS), Refusal::InvalidJournal)
 }
 
 // 32, 33.
-fn call_check(rec: &[u8], events: &[u8]) -> Result<(), Refusal>
-    ensures { code result ≡ call_number rec.now events.now }
+fn call_check(rec: &[u8], events: &[u8]) -> Result<Head, Refusal>
+    ensures number { code result ≡ call_number rec.now events.now }
+    ensures head { IfOk result (λ head. HeadOf rec.now head) }
 {
-    record::form_check(rec)?;
-    events::buffer_check(events)
+    let head = record::parse(rec)?;
+    events::buffer_check(events)?;
+    Ok(head)
 }
 
 fn answer_call(image: &mut [u8], journal: &mut [u8], rec: &[u8], events: &mut [u8]) -> Answer
@@ -143,11 +132,14 @@ fn answer_call(image: &mut [u8], journal: &mut [u8], rec: &[u8], events: &mut [u
 {
     let is_image_good = image::good_image(image);
     state_check(is_image_good, journal)?;
-    call_check(rec, events)?;
-    if record::is_view(record::operation(rec)) {
-        return run_view(image, rec, events);
+    let head = call_check(rec, events)?;
+    let image: &mut Image = image.try_into().unwrap();
+    let events: &mut Buffer = events.try_into().unwrap();
+    if let Operation::View(view) = head.operation {
+        return run_view(image, view, head, events);
     }
-    run_operation(image, journal, rec, events)
+    let rec: &Record = rec.try_into().unwrap();
+    run_operation(image, journal, rec, head, events)
 }
 
 // A call: its number; value and event count are written for every answer.
@@ -180,25 +172,26 @@ pub fn call_without_journal(
 }
 
 // An operation that is no view, on a copy of the image.
-fn preview_operation(image: &[u8], rec: &[u8], events: &mut [u8]) -> Answer
-    requires { Good image.now × (call_number rec.now events.old ≡ 0) × (is_view (operation_of rec.now) ≡ false) × (length rec.now ≡ 448) × (length events.old ≡ 896) }
+fn preview_operation(image: &Image, rec: &Record, head: Head, events: &mut Buffer) -> Answer
+    requires { Good image.now × (call_number rec.now events.old ≡ 0) × HeadOf rec.now head }
     ensures { Answers (op image.now rec.now events.old).answer result events.new }
 {
-    let mut copy = [0u8; 36832];
-    fields::copy_bytes(image, &mut copy);
-    try_operation(&mut copy, rec, events)
+    let mut copy = *image;
+    try_operation(&mut copy, rec, head, events)
 }
 
 fn answer_preview(image: &[u8], rec: &[u8], events: &mut [u8]) -> Answer
     ensures { Answers (preview_answer image.now rec.now events.old) result events.new }
 {
-    image_check(image::good_image(image))?;
-    call_check(rec, events)?;
-    let o = record::operation(rec);
-    if record::is_view(o) {
-        return run_view(image, rec, events);
+    refusal::refuse_if(!image::good_image(image), Refusal::InvalidImage)?;
+    let head = call_check(rec, events)?;
+    let image: &Image = image.try_into().unwrap();
+    let events: &mut Buffer = events.try_into().unwrap();
+    if let Operation::View(view) = head.operation {
+        return run_view(image, view, head, events);
     }
-    preview_operation(image, rec, events)
+    let rec: &Record = rec.try_into().unwrap();
+    preview_operation(image, rec, head, events)
 }
 
 // A preview: what a call without a journal would answer. The image is lent to read, and there is no journal.
@@ -215,16 +208,6 @@ pub fn preview(
     write_answer(a, value, event_count)
 }
 
-// The number of an answer that is a number alone.
-fn number_of(answer: Result<(), Refusal>) -> u32
-    ensures { result ≡ code answer }
-{
-    match answer {
-        Ok(()) => 0,
-        Err(refusal) => u32::from(u8::from(refusal)),
-    }
-}
-
 fn try_begin(image: &mut [u8], journal: &mut [u8]) -> Result<(), Refusal>
     ensures { JournalIs (vault_step (vault image.old journal.old) Call.begin) (code result) image.new journal.new }
 {
@@ -236,7 +219,7 @@ fn try_begin(image: &mut [u8], journal: &mut [u8]) -> Result<(), Refusal>
 pub fn begin(image: &mut [u8], journal: &mut [u8]) -> u32
     ensures { JournalIs (vault_step (vault image.old journal.old) Call.begin) result image.new journal.new }
 {
-    number_of(try_begin(image, journal))
+    refusal::number(&try_begin(image, journal))
 }
 
 fn try_commit(image: &mut [u8], journal: &mut [u8]) -> Result<(), Refusal>
@@ -250,7 +233,7 @@ fn try_commit(image: &mut [u8], journal: &mut [u8]) -> Result<(), Refusal>
 pub fn commit(image: &mut [u8], journal: &mut [u8]) -> u32
     ensures { JournalIs (vault_step (vault image.old journal.old) Call.commit) result image.new journal.new }
 {
-    number_of(try_commit(image, journal))
+    refusal::number(&try_commit(image, journal))
 }
 
 fn try_rollback(image: &mut [u8], journal: &mut [u8]) -> Result<(), Refusal>
@@ -258,13 +241,13 @@ fn try_rollback(image: &mut [u8], journal: &mut [u8]) -> Result<(), Refusal>
 {
     let is_image_good = image::good_image(image);
     state_check(is_image_good, journal)?;
-    journal::rollback(image, journal, 2302)
+    journal::rollback(image, journal, CELLS)
 }
 
 pub fn rollback(image: &mut [u8], journal: &mut [u8]) -> u32
     ensures { JournalIs (vault_step (vault image.old journal.old) Call.rollback) result image.new journal.new }
 {
-    number_of(try_rollback(image, journal))
+    refusal::number(&try_rollback(image, journal))
 }
 
 fn try_undo(image: &mut [u8], journal: &mut [u8]) -> Result<(), Refusal>
@@ -272,13 +255,13 @@ fn try_undo(image: &mut [u8], journal: &mut [u8]) -> Result<(), Refusal>
 {
     let is_image_good = image::good_image(image);
     state_check(is_image_good, journal)?;
-    journal::undo(image, journal, 2302)
+    journal::undo(image, journal, CELLS)
 }
 
 pub fn undo(image: &mut [u8], journal: &mut [u8]) -> u32
     ensures { JournalIs (vault_step (vault image.old journal.old) Call.undo) result image.new journal.new }
 {
-    number_of(try_undo(image, journal))
+    refusal::number(&try_undo(image, journal))
 }
 
 // Demand 1 of this vault, over the step that the contracts above cite.
