@@ -1,16 +1,17 @@
 // Toll bounds (docs/FORMATS.md, "Toll bounds"): the least and the greatest holding of the vault after amounts are moved in at a toll that is known within bounds.
 #![tactic(auto)]
 
-ghost use Rattle.std.specs.Prelude.{◌≡◌, ◌+◌, ◌*◌, ◌<◌, ◌≤◌, length};
+ghost use Rattle.std.specs.Prelude.{true, ◌≡◌, ◌+◌, ◌*◌, ◌<◌, ◌≤◌, length};
 ghost use Rattle.refusal.specs.Numbers.{code};
 ghost use Rattle.amount.specs.Biased.{bias, biased, amount_at};
-ghost use Rattle.image.specs.Layout.{image_length};
+ghost use Rattle.image.specs.Good.{good_image};
 ghost use Rattle.token.specs.Token.{arrives};
 ghost use Rattle.toll_bounds.specs.Bounds.{amount_in, list_number, tolls_number, token_number, request_number, amounts_number, toll_bounds, BoundsAre};
 ghost use Rattle.toll_bounds.specs.Parts.{TallyIs, HoldingsAre};
 ghost use Rattle.toll_bounds.specs.Theorems.{TollBounds};
 
 use amount::Amount;
+use image::{Image, Kind};
 use refusal::Refusal;
 
 // 46: the list's length.
@@ -43,8 +44,7 @@ fn tolls_check(least: Amount, greatest: Amount) -> Result<(), Refusal>
 }
 
 // 46: the token.
-fn token_check(img: &[u8], t: u8) -> Result<(), Refusal>
-    requires { length img.now ≡ image_length }
+fn token_check(img: &Image, t: u8) -> Result<(), Refusal>
     ensures { code result ≡ token_number img.now t }
 {
     if t > 63 {
@@ -53,7 +53,7 @@ fn token_check(img: &[u8], t: u8) -> Result<(), Refusal>
     if t < 48 {
         return Err(Refusal::InvalidTollBounds);
     }
-    if fields::get64(img, 3680 + 24 * ((t - 48) as usize)) != 1 {
+    if image::token_kind(img, usize::from(t)) != Kind::Moving {
         return Err(Refusal::InvalidTollBounds);
     }
     Ok(())
@@ -61,13 +61,12 @@ fn token_check(img: &[u8], t: u8) -> Result<(), Refusal>
 
 // 46.
 fn request_check(
-    img: &[u8],
+    img: &Image,
     t: u8,
     bytes: usize,
     least: Amount,
     greatest: Amount,
 ) -> Result<(), Refusal>
-    requires { length img.now ≡ image_length }
     ensures { code result ≡ request_number img.now t bytes (biased least) (biased greatest) }
 {
     list_check(bytes)?;
@@ -135,6 +134,29 @@ const NO_HOLDINGS: Holdings = Holdings {
     greatest: Amount::ZERO,
 };
 
+// 46, 4, 7, of a good image.
+fn holdings_of(
+    image: &Image,
+    token: u8,
+    amounts: &[u8],
+    least: Amount,
+    greatest: Amount,
+) -> Result<Holdings, Refusal>
+    requires { good_image image.now ≡ true }
+    ensures { HoldingsAre (toll_bounds image.now token amounts.now (biased least) (biased greatest)) result }
+{
+    request_check(image, token, amounts.len(), least, greatest)?;
+    let count = amounts.len() / 16;
+    amounts_check(amounts, count)?;
+    let held = token::balance(image, usize::from(token), 1);
+    let greatest_holding = holding_after(least, held, amounts, count)?;
+    let least_holding = holding_after(greatest, held, amounts, count)?;
+    Ok(Holdings {
+        least: least_holding,
+        greatest: greatest_holding,
+    })
+}
+
 // 30, 46, 4, 7.
 fn bounds_of(
     image: &[u8],
@@ -148,16 +170,8 @@ fn bounds_of(
     if !image::good_image(image) {
         return Err(Refusal::InvalidImage);
     }
-    request_check(image, token, amounts.len(), least, greatest)?;
-    let count = amounts.len() / 16;
-    amounts_check(amounts, count)?;
-    let held = token::balance(image, token as usize, 1);
-    let greatest_holding = holding_after(least, held, amounts, count)?;
-    let least_holding = holding_after(greatest, held, amounts, count)?;
-    Ok(Holdings {
-        least: least_holding,
-        greatest: greatest_holding,
-    })
+    let image = image.try_into().unwrap();
+    holdings_of(image, token, amounts, least, greatest)
 }
 
 // Both holdings are written for every answer.
@@ -178,10 +192,7 @@ pub fn toll_bounds(
     let holdings = answer.unwrap_or(NO_HOLDINGS);
     amount::write_amount(least_holding, 0, holdings.least);
     amount::write_amount(greatest_holding, 0, holdings.greatest);
-    match answer {
-        Ok(_) => 0,
-        Err(refusal) => u32::from(u8::from(refusal)),
-    }
+    refusal::number(&answer)
 }
 
 // What holds of toll bounds, over the definition that the contract above cites.

@@ -1,43 +1,19 @@
 -- `toll_bounds::bounds_of` meets its contract.
 use mathlib.Core.Path.{refl, sym, ◌∙◌}
-use native.Mathlib.Omega.{arith}
-use Rattle.refusal.specs.Laws.{some_number}
 use Rattle.std.proofs.Common.{Err}
 use Rattle.refusal.specs.declared.Refusal.TheVariants.{InvalidImage}
 use Rattle.storage.specs.Facts.{facts}
-use Rattle.toll_bounds.specs.Laws.{request_free}
-use Rattle.toll_bounds.proofs.Whole.{refused_is, stop_30, stop_46, stop_4, stop_7, low_given, given_is}
+use Rattle.toll_bounds.proofs.Whole.{refused_is, stop_30}
 use Rattle.toll_bounds.proofs.bounds_of.Goals as goal
 
 pub returns-then-not-good_image : goal.returns-then-not-good_image
 returns-then-not-good_image c = refused_is _ _ _ _ _ InvalidImage (Err InvalidImage) (refl, refl) (stop_30 _ _ _ _ _ (sym c.good_image.ensures ∙ c.if-not-good_image.true))
 
-pub request_check-requires : goal.request_check-requires
-request_check-requires c = (facts _ (sym c.good_image.ensures ∙ c.if-not-good_image.false)).long
+pub unwrap-image-requires : goal.unwrap-image-requires
+unwrap-image-requires c = c.try_into.ensures.0 (facts _ (sym c.good_image.ensures ∙ c.if-not-good_image.false)).long
 
-pub returns-in_err-request_check : goal.returns-in_err-request_check
-returns-in_err-request_check c = refused_is _ _ _ _ _ _ _ c.from_residual.ensures (stop_46 _ _ _ _ _ (sym c.good_image.ensures ∙ c.if-not-good_image.false) c.in_err-request_check.ensures (some_number _))
-
-pub amounts_check-requires : goal.amounts_check-requires
-amounts_check-requires c = let r = request_free _ _ _ _ _ c.in_ok-request_check.ensures refl in (omega arith, r.few)
-
-pub returns-in_err-amounts_check : goal.returns-in_err-amounts_check
-returns-in_err-amounts_check c = refused_is _ _ _ _ _ _ _ c.from_residual-in_err-amounts_check.ensures (stop_4 _ _ _ _ _ (sym c.good_image.ensures ∙ c.if-not-good_image.false) c.in_ok-request_check.ensures c.in_err-amounts_check.ensures (some_number _))
-
-pub balance-held-requires : goal.balance-held-requires
-balance-held-requires c = let r = request_free _ _ _ _ _ c.in_ok-request_check.ensures refl in ((facts _ (sym c.good_image.ensures ∙ c.if-not-good_image.false)).long, r.token.0, r.token.1, omega arith)
-
-pub holding_after-requires : goal.holding_after-requires
-holding_after-requires c = let r = request_free _ _ _ _ _ c.in_ok-request_check.ensures refl in (r.not_below.0, omega arith, r.few)
-
-pub returns-in_err-greatest_holding : goal.returns-in_err-greatest_holding
-returns-in_err-greatest_holding c = refused_is _ _ _ _ _ _ _ c.from_residual-in_err-greatest_holding.ensures (stop_7 _ _ _ _ _ (sym c.good_image.ensures ∙ c.if-not-good_image.false) c.in_ok-request_check.ensures c.in_ok-amounts_check.ensures c.balance-held.ensures c.in_err-greatest_holding.ensures (some_number _))
-
-pub holding_after-requires-2 : goal.holding_after-requires-2
-holding_after-requires-2 c = let r = request_free _ _ _ _ _ c.in_ok-request_check.ensures refl in (r.not_below.1, omega arith, r.few)
-
-pub returns-in_err-least_holding : goal.returns-in_err-least_holding
-returns-in_err-least_holding c = absurd (low_given _ _ _ _ _ (sym c.good_image.ensures ∙ c.if-not-good_image.false) c.in_ok-request_check.ensures c.in_ok-amounts_check.ensures c.balance-held.ensures c.in_ok-greatest_holding.ensures c.in_err-least_holding.ensures)
+pub holdings_of-requires : goal.holdings_of-requires
+holdings_of-requires c = let w = rw c.unwrap-image.ensures at c.try_into.ensures in rw w.1.same (sym c.good_image.ensures ∙ c.if-not-good_image.false)
 
 pub returns : goal.returns
-returns c = given_is _ _ _ _ _ (sym c.good_image.ensures ∙ c.if-not-good_image.false) c.in_ok-request_check.ensures c.in_ok-amounts_check.ensures c.balance-held.ensures c.in_ok-greatest_holding.ensures c.in_ok-least_holding.ensures
+returns c = let w = rw c.unwrap-image.ensures at c.try_into.ensures in rw w.1.same at c.holdings_of.ensures
