@@ -1,17 +1,16 @@
--- A local holds the bits of a signed number (`of_z`), and an operation reads them (`to_z`): checked operations of two amounts.
+-- A local holds the bits of a signed number (`of_z`), and an operation reads them (`to_z`): operations of amounts, and the bits of one in bytes.
 use Rattle.std.proofs.Common.{◌≡◌, ℕ, ◌+◌, ◌-◌, ◌*◌, ◌/◌, ◌%◌, ◌^◌, ◌<◌, ℤ, ◌+ℤ◌, ◌-ℤ◌, pos, negsuc, suc, neg_ℤ, Some, sym, ap, ap₂, ◌∙◌, to_z-of_z, SFits, to_z, of_z, arith, lit<, mod-eq_of_lt, mod-lt, div-lt_iff_lt-mul, refl}
 use Rattle.std.specs.Int.{w128, to_le_bytes}
-use Rattle.std.proofs.Math.Nat.{div-div-eq-div-mul}
-use Rattle.fields.proofs.Numbers.{low}
+use Rattle.std.proofs.Math.Nat.{add-mod_right, div-div-eq-div-mul}
+use Rattle.fields.proofs.Numbers.{low, put-part}
+use borrow.Rule.Slice.PartMut.{put_mid}
 use Rattle.amount.specs.declared.Amount.{Amount}
-use Rattle.amount.specs.Biased.{biased, bias, in_range, amount_at, put_amount}
+use Rattle.amount.specs.Biased.{biased_integer, biased, bias, in_range, amount_at, put_amount}
 use Rattle.amount.specs.Value.{fits_in, number_in, some_of, sum_is, difference_is, negative_is}
-use Rattle.amount.specs.Biased.{biased_integer}
 use Rattle.amount.specs.Laws.{by_lt, bias_parts, full_parts, flip_back, amount_at-bytes}
-use Rattle.std.specs.Prelude.{List, slice_index}
-use Rattle.fields.specs.Bytes.{le, put, le_below, put_halves}
+use Rattle.std.specs.Prelude.{List, slice_index, length, take, drop, ◌≤◌}
+use Rattle.fields.specs.Bytes.{le, put, le_below, length-put, put_halves, put_split}
 use Rattle.amount.specs.Halves.{InRange, wrapped}
-use Rattle.std.proofs.Math.Nat.{add-mod_right}
 use borrow.Author.Gap.{read_sfits}
 use mir.Facts.{to_z_pos, to_z-neg, Fits-of_z}
 use lib.IntN.{sub_ℕ}
@@ -90,5 +89,20 @@ module _ (a : Amount) (f : SFits w128 a.0) where
       let g : n / 2 ^ 64 ≡ (u / 2 ^ 64 + 2 ^ 63) % 2 ^ 64 = omega arith in
       rw (to_z-of_z f) (put_halves 8 8 l at u ∙ rw (g, flip_back (u / 2 ^ 64) h, x) refl)
 
-pub digits_of_16 : (x : ℕ) → to_le_bytes w128 x ≡ low 16 x
-digits_of_16 x = simp div-div-eq-div-mul
+-- the two halves of the bits' bytes
+pub low_bytes : (x : ℕ) → take 8 (to_le_bytes w128 x) ≡ low 8 x
+low_bytes x = simp div-div-eq-div-mul
+
+pub high_bytes : (x : ℕ) → take 8 (drop 8 (to_le_bytes w128 x)) ≡ low 8 (x / 256 ^ 8)
+high_bytes x = simp div-div-eq-div-mul
+
+-- written one behind the other
+pub put_two : (l ys zs : List ℕ) (at x : ℕ) → at + 16 ≤ length l → ys ≡ low 8 x → zs ≡ low 8 (x / 256 ^ 8) → put_mid (at + 8) (at + 16 - (at + 8)) (put_mid at (at + 8 - at) l ys) zs ≡ put 16 l at x
+put_two l ys zs at x h e f =
+    let k : at + 16 - (at + 8) ≡ at + 8 + 8 - (at + 8) = omega arith in
+    let p : put_mid at (at + 8 - at) l ys ≡ put 8 l at x = put-part 8 l ys at x (omega arith) e in
+    let m : at + 8 + 8 ≤ length (put 8 l at x) = rw length-put (omega arith) in
+    ap (λ (n : ℕ). put_mid (at + 8) n (put_mid at (at + 8 - at) l ys) zs) k
+    ∙ ap (λ (t : List ℕ). put_mid (at + 8) (at + 8 + 8 - (at + 8)) t zs) p
+    ∙ put-part 8 (put 8 l at x) zs (at + 8) (x / 256 ^ 8) m f
+    ∙ sym (put_split 8 8 l at x)

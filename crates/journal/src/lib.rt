@@ -311,20 +311,16 @@ pub fn enter_cells(old: &[u8], new: &[u8], places: &mut [u8], cells: usize, call
         let first = STRETCH * stretch;
         let from = 16 * first;
         let to = from + STRETCH_BYTES;
-        if !fields::same_words(&old[from..to], &new[from..to]) {
+        let before = &old[from..to];
+        let after = &new[from..to];
+        if !fields::same_words(before, after) {
             let at = place_at(n, places.len());
             let span = Span {
                 cells: STRETCH,
                 first,
                 call,
             };
-            n += enter_span(
-                &old[from..to],
-                &new[from..to],
-                &mut places[at..],
-                span,
-                same_cell,
-            );
+            n += enter_span(before, after, &mut places[at..], span, same_cell);
         }
     }
     let first = STRETCH * (cells / STRETCH);
