@@ -1,30 +1,23 @@
 // The token table: a line a transfer, with its number and then the two holdings' low halves. Token 48 moves and takes a toll of 3, token 49 is frozen, the others are absent.
 #![tactic(auto)]
 
-ghost use Rattle.std.specs.Prelude.{◌≡◌, ◌<◌, ◌≤◌, length};
+ghost use Rattle.std.specs.Prelude.{◌<◌, ◌≤◌};
 
 use amount::Amount;
+use image::Image;
 use refusal::Refusal;
 use std::io;
 
-// The number of a refusal, and 0 for none.
-fn number(answer: Result<(), Refusal>) -> u8 {
-    match answer {
-        Ok(()) => 0,
-        Err(refusal) => u8::from(refusal),
-    }
-}
-
-fn show(rt: &impl Print, image: &[u8], t: usize, a: usize) -> io::Result<()>
-    requires { (length image.now ≡ 36832) × (48 ≤ t) × (t < 64) × (a < 64) }
+fn show(rt: &impl Print, image: &Image, t: usize, a: usize) -> io::Result<()>
+    requires { (48 ≤ t) × (t < 64) × (a < 64) }
 {
     let held = token::balance(image, t, a);
     print!(rt; "{} ", held.0 % (1 << 64))
 }
 
 // 30 where the image is not good.
-fn moved(image: &mut [u8], t: usize, from: usize, to: usize, n: u64) -> Result<(), Refusal>
-    requires { (length image.old ≡ 36832) × (from < 64) × (to < 64) }
+fn moved(image: &mut Image, t: usize, from: usize, to: usize, n: u64) -> Result<(), Refusal>
+    requires { (from < 64) × (to < 64) }
 {
     if !image::good_image(image) {
         return Err(Refusal::InvalidImage);
@@ -34,32 +27,28 @@ fn moved(image: &mut [u8], t: usize, from: usize, to: usize, n: u64) -> Result<(
 
 fn try_transfer(
     rt: &impl Print,
-    image: &mut [u8],
+    image: &mut Image,
     t: usize,
     from: usize,
     to: usize,
     n: u64,
 ) -> io::Result<()>
-    requires { (length image.old ≡ 36832) × (48 ≤ t) × (t < 64) × (from < 64) × (to < 64) }
+    requires { (48 ≤ t) × (t < 64) × (from < 64) × (to < 64) }
 {
     let answer = moved(image, t, from, to, n);
-    print!(rt; "{} ", number(answer))?;
+    print!(rt; "{} ", refusal::number(&answer))?;
     show(rt, image, t, from)?;
     show(rt, image, t, to)?;
     println!(rt)
 }
 
 // An address that is no token's.
-fn try_stranger(rt: &impl Print, image: &mut [u8], t: usize) -> io::Result<()>
-    requires { length image.old ≡ 36832 }
-{
+fn try_stranger(rt: &impl Print, image: &mut Image, t: usize) -> io::Result<()> {
     let answer = moved(image, t, 2, 1, 1);
-    println!(rt; "{} ", number(answer))
+    println!(rt; "{} ", refusal::number(&answer))
 }
 
-fn fill(image: &mut [u8])
-    requires { length image.old ≡ 36832 }
-{
+fn fill(image: &mut Image) {
     fields::put64(image, 3680, 1);
     amount::write_amount(image, 3688, Amount::from(3));
     fields::put64(image, 3704, 2);
@@ -69,9 +58,7 @@ fn fill(image: &mut [u8])
 }
 
 // Done, short of the amount, to itself, a toll above the amount, frozen, absent.
-fn plain(rt: &impl Print, image: &mut [u8]) -> io::Result<()>
-    requires { length image.old ≡ 36832 }
-{
+fn plain(rt: &impl Print, image: &mut Image) -> io::Result<()> {
     try_transfer(rt, image, 48, 2, 1, 50)?;
     try_transfer(rt, image, 48, 2, 1, 51)?;
     try_transfer(rt, image, 48, 2, 2, 20)?;
@@ -81,16 +68,14 @@ fn plain(rt: &impl Print, image: &mut [u8]) -> io::Result<()>
 }
 
 // A receiver at 2^127 - 1: past it, and not, since the toll takes all.
-fn at_the_end(rt: &impl Print, image: &mut [u8]) -> io::Result<()>
-    requires { length image.old ≡ 36832 }
-{
+fn at_the_end(rt: &impl Print, image: &mut Image) -> io::Result<()> {
     amount::write_amount(image, 4144, Amount(i128::MAX));
     try_transfer(rt, image, 48, 2, 5, 4)?;
     try_transfer(rt, image, 48, 2, 5, 3)
 }
 
 fn main(rt: HostRuntime) -> io::Result<()> {
-    let mut image = [0u8; 36832];
+    let mut image = [0u8; image::LENGTH];
     fill(&mut image);
     plain(&rt, &mut image)?;
     try_stranger(&rt, &mut image, 47)?;
