@@ -1,5 +1,5 @@
 -- What operations 29 and 30 owe to demand 3.
-use Rattle.std.specs.Prelude.{◌≡◌, refl, List, ℕ, ◌+◌, ◌<◌, eqb}
+use Rattle.std.specs.Prelude.{◌≡◌, refl, Bool, true, false, List, ℕ, ◌+◌, ◌<◌, eqb}
 use Rattle.std.proofs.Common.{sym, ◌∙◌, arith, eq-eqb, ne_eqb}
 use Rattle.std.proofs.Math.Decide.{ℕ_discrete}
 use Rattle.book.specs.Book.{Book, BookIs, adds, enter_book}
@@ -63,11 +63,11 @@ outside_move_owed =
 -- ---- 30
 frozen_range : (on : ℕ) → (0 < frozen_kind on) × (frozen_kind on < 3)
 unfolding frozen_kind
-frozen_range on = go (ℕ_discrete on 1)
+frozen_range on = go (eqb on 1) refl
   where
-    go : Dec (on ≡ 1) → (0 < pick (eqb on 1) 2 1) × (pick (eqb on 1) 2 1 < 3)
-    go (yes p) = rw (eq-eqb on 1 p) (omega arith)
-    go (no p) = rw (ne_eqb on 1 p) (omega arith)
+    go : (t : Bool) → eqb on 1 ≡ t → (0 < frozen_kind on) × (frozen_kind on < 3)
+    go true e = rw e (omega arith)
+    go false e = rw e (omega arith)
 
 pub freeze_owed : Owed 30 freeze
 unfolding freeze_outcome quiet_operation ◌and◌

@@ -20,14 +20,13 @@ module _ (l : List ℕ) (caller t to n : ℕ) {k : ℕ} (e : k ≡ outside_move_
   unfolding outside_move_outcome outside_move_number
   checked_out z = link_at_lem _ 0 _ (omega arith) e
 
-  module _ (z : k ≡ 0) {j : ℕ} {m : List ℕ} (f : (j ≡ transfer_number l t caller to n) × (m ≡ transferred l t caller to n)) where
+  module _ (z : k ≡ 0) {j : ℕ} (f : j ≡ transfer_number l t caller to n) where
     pub not_moved : (j ≡ 0 → ⊥) → j ≡ (outside_move_outcome l caller t to n).number
     unfolding outside_move_outcome outside_move_number
-    not_moved y = let (g, _) = f in link_at_lem _ 1 _ (omega arith) g
+    not_moved y = link_at_lem _ 1 _ (omega arith) f
 
-    pub moved : {v : List ℕ} {d : Done} → j ≡ 0 → v ≡ event_buffer [] → (biased d.value ≡ bias) × (d.events ≡ 0) → Does (outside_move_outcome l caller t to n) (Ok d) m v
+    pub moved : {m v : List ℕ} {d : Done} → j ≡ 0 → m ≡ transferred l t caller to n → v ≡ event_buffer [] → (biased d.value ≡ bias) × (d.events ≡ 0) → Does (outside_move_outcome l caller t to n) (Ok d) m v
     unfolding outside_move_outcome outside_move_number
-    moved y w q =
-        let (g, i) = f in
-        accepted (sym (link_at_lem _ 2 0 (sym e ∙ z, (sym g ∙ y, tt)) refl)) (q.0 ∙ sym (add-zero bias)) q.1
-        (i ∙ transfer_done l t caller to n (sym g ∙ y)) w
+    moved y i w q =
+        accepted (sym (link_at_lem _ 2 0 (sym e ∙ z, (sym f ∙ y, tt)) refl)) (q.0 ∙ sym (add-zero bias)) q.1
+        (i ∙ transfer_done l t caller to n (sym f ∙ y)) w

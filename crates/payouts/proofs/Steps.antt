@@ -19,7 +19,7 @@ use Rattle.token.specs.Laws.{transfer_free, transfer_done}
 use Rattle.storage.specs.Setters.{set_credit, record_balance}
 use Rattle.image.specs.Layout.{slot, holding, credit}
 use Rattle.amount.specs.Biased.{bias}
-use Rattle.fields.specs.Rules.{pick, verdict, stop_at, or_else, or_none, chain, link_at_lem}
+use Rattle.fields.specs.Rules.{pick, verdict, stop_at, only_where, or_else, or_none, chain, link_at_lem, ends_at}
 use Rattle.payouts.specs.Laws.{items-length}
 use Rattle.payouts.specs.Parts.{put_events, Pays}
 use Rattle.payouts.specs.Token.{take_credit}
@@ -88,18 +88,12 @@ module _ (l : List ℕ) (t to n : ℕ) where
       as_read : h ≡ held_after l t to n
       as_read = e ∙ ap (λ (m : List ℕ). holding m (slot t) 1) sent_is
 
-      pub not_left : (h ≡ d → ⊥) → 13 ≡ pay_number l t to n
+      -- w is whether the holding read is another than what was to be left
+      pub compared : {w : Bool} → (w ≡ true → h ≡ d → ⊥) → (w ≡ false → h ≡ d) → pick w 13 0 ≡ pay_number l t to n
       unfolding pay_number remaining_number
-      not_left w =
-          let v : 13 ≡ remaining_number l t to n = stop_at _ 0 13 (λ z. let r = as_read in w (omega arith)) refl in
-          link_at_lem _ 1 13 (sym a ∙ b, λ z. omega arith) v
-
-      pub left_as_due : h ≡ d → 0 ≡ pay_number l t to n
-      unfolding pay_number remaining_number
-      left_as_due w =
+      compared p q =
           let r = as_read in
-          let v : 0 ≡ remaining_number l t to n = stop_at _ 1 0 (omega arith, tt) refl in
-          link_at_lem _ 2 0 (sym a ∙ b, (sym v, tt)) refl
+          ends_at _ 1 _ (sym a ∙ b, tt) (only_where _ 13 (λ x y. p x (omega arith)) (λ x. let y = q x in omega arith))
 
 -- ---- what payouts that refused owe, they owe of the answer that passes the refusal on
 pub passed_pays : {ps : List Payout} {t seq caller by : ℕ} {l e : List ℕ} {i : ℕ} {m v : List ℕ} (x : Refusal) (r : Result (Unit {0}) Refusal) → Refuses r x → Pays ps t seq caller by l e i (number_of x) m v

@@ -9,13 +9,27 @@ use borrow.Author.Rules.{rules}
 use Rattle.payouts.proofs.pay_items.Goals as goal
 
 pub pay-requires : goal.pay-requires
-pay-requires c = let s = c.args in let l = c.loop-i in let n = s.count - l.i in let o = s.count - (l.i + 1) in (l.invariant.2.good, search rules, omega arith, search rules, search rules, payee n l.i s.rec.now l.invariant.2 o (l.i + 1) (omega arith) (omega arith) c.item_address-to.ensures, amount n l.i s.rec.now l.invariant.2 o (l.i + 1) (omega arith) (omega arith) c.item_amount-n.ensures)
+pay-requires c =
+    let s = c.args in
+    let l = c.loop-i in
+    let n = s.count - l.i in
+    let o = s.count - (l.i + 1) in
+    let to = payee n l.i s.rec.now l.invariant o (l.i + 1) (omega arith) (omega arith) c.item_address-to.ensures in
+    let paid = amount n l.i s.rec.now l.invariant o (l.i + 1) (omega arith) (omega arith) c.item_amount-n.ensures in
+    (l.invariant.good, omega arith, search rules, search rules, to, paid)
 
 pub returns-in_err-pay : goal.returns-in_err-pay
-returns-in_err-pay c = let s = c.args in let l = c.loop-i in passed_pays _ _ c.from_residual.ensures (pay_stop (s.count - l.i) l.i s.rec.now l.invariant.2 (s.count - (l.i + 1)) (l.i + 1) (omega arith) (omega arith) c.item_address-to.ensures c.item_amount-n.ensures c.in_err-pay.ensures (some_number _))
+returns-in_err-pay c =
+    let s = c.args in
+    let l = c.loop-i in
+    passed_pays _ _ c.from_residual.ensures
+    (pay_stop (s.count - l.i) l.i s.rec.now l.invariant (s.count - (l.i + 1)) (l.i + 1) (omega arith) (omega arith) c.item_address-to.ensures c.item_amount-n.ensures c.in_err-pay.ensures (some_number _))
 
 pub loop-i-preserved : goal.loop-i-preserved
-loop-i-preserved c = let s = c.args in let l = c.loop-i in (search rules, search rules, pay_turn (s.count - l.i) l.i s.rec.now l.invariant.2 (s.count - (l.i + 1)) (l.i + 1) (omega arith) (omega arith) c.item_address-to.ensures c.item_amount-n.ensures c.in_ok-pay.ensures refl)
+loop-i-preserved c =
+    let s = c.args in
+    let l = c.loop-i in
+    pay_turn (s.count - l.i) l.i s.rec.now l.invariant (s.count - (l.i + 1)) (l.i + 1) (omega arith) (omega arith) c.item_address-to.ensures c.item_amount-n.ensures c.in_ok-pay.ensures refl
 
 pub returns : goal.returns
-returns c = let s = c.args in let l = c.loop-i in pay_end (s.count - l.i) l.i s.rec.now l.invariant.2 (omega arith)
+returns c = let s = c.args in let l = c.loop-i in pay_end (s.count - l.i) l.i s.rec.now l.invariant (omega arith)

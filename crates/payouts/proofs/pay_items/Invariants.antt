@@ -2,12 +2,8 @@
 use Rattle.payouts.proofs.Loops.{Paying}
 use Rattle.payouts.specs.Payouts.{items}
 use Rattle.amount.specs.Biased.{num}
-use lib.ListN.{length}
-use mathlib.Core.Path.{◌≡◌}
 use Prim.Native.Nat.{◌-◌}
 use Rattle.payouts.proofs.pay_items.Given as goal
 
 abbrev pub invariant-loop-i : goal.invariant-loop-i
-invariant-loop-i l = (length l.img ≡ 36832)
-    × (length l.events ≡ 896)
-    × Paying l.t l.sequence l.caller (num l.by_operator) (items l.count 0 l.rec) l.initial.img l.initial.events l.i (items (l.count - l.i) l.i l.rec) l.img l.events
+invariant-loop-i l = Paying l.paid.token l.paid.sequence l.paid.caller (num l.paid.by_operator) (items l.count 0 l.rec) l.initial.img l.initial.events l.i (items (l.count - l.i) l.i l.rec) l.img l.events

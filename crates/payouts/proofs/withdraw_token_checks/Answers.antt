@@ -26,18 +26,24 @@ returns-in_err-cap_check c = passed_on _ 3 _ _ (omega arith) c.from_residual-in_
 
 pub returns-in_err-presence_check : goal.returns-in_err-presence_check
 unfolding withdraw_token_checks
-returns-in_err-presence_check c = passed_on _ 4 _ _ (omega arith) c.from_residual-in_err-presence_check.ensures c.in_err-presence_check.ensures
+returns-in_err-presence_check c = let e = rw c.from-t.ensures at c.in_err-presence_check.ensures in passed_on _ 4 _ _ (omega arith) c.from_residual-in_err-presence_check.ensures e
 
 pub balance-requires : goal.balance-requires
-balance-requires c = let f = absent_free _ _ c.in_ok-presence_check.ensures refl in (search rules, omega arith, omega arith, omega arith)
+balance-requires c = let f = absent_free _ _ c.in_ok-presence_check.ensures refl in (omega arith, omega arith, omega arith)
 
 pub returns-in_err-funds_check : goal.returns-in_err-funds_check
 unfolding withdraw_token_checks
-returns-in_err-funds_check c = let e = rw c.balance.ensures at c.in_err-funds_check.ensures in passed_on _ 5 _ _ (omega arith) c.from_residual-in_err-funds_check.ensures e
+returns-in_err-funds_check c =
+    let p = rw c.from-t.ensures at c.in_ok-presence_check.ensures in
+    let e = rw (c.balance.ensures, c.from-t.ensures) at c.in_err-funds_check.ensures in
+    passed_on _ 5 _ _ (omega arith) c.from_residual-in_err-funds_check.ensures e
 
 pub credit_check-requires : goal.credit_check-requires
-credit_check-requires c = let f = absent_free _ _ c.in_ok-presence_check.ensures refl in (search rules, omega arith, omega arith, omega arith)
+credit_check-requires c = let f = absent_free _ _ c.in_ok-presence_check.ensures refl in (omega arith, omega arith, omega arith)
 
 pub returns : goal.returns
 unfolding withdraw_token_checks
-returns c = let e = rw c.balance.ensures at c.in_ok-funds_check.ensures in ends_at _ 6 _ (omega arith) c.credit_check.ensures
+returns c =
+    let p = rw c.from-t.ensures at c.in_ok-presence_check.ensures in
+    let e = rw (c.balance.ensures, c.from-t.ensures) at c.in_ok-funds_check.ensures in
+    ends_at _ 6 _ (omega arith) (rw c.from-t.ensures at c.credit_check.ensures)

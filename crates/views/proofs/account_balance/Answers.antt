@@ -4,8 +4,10 @@ use native.Mathlib.Omega.{arith}
 use Rattle.amount.specs.Order.{biased_zero}
 use Rattle.views.proofs.account_balance.Goals as goal
 
-pub returns-then-t-lt48 : goal.returns-then-t-lt48
-returns-then-t-lt48 c = no_token c.args.img.now c.args.t c.args.account c.if-t-lt48.true biased_zero
+pub returns-then-i-lt-FIRST_TOKEN : goal.returns-then-i-lt-FIRST_TOKEN
+returns-then-i-lt-FIRST_TOKEN c = no_token c.args.img.now c.args.t c.args.account (omega arith) biased_zero
 
 pub returns : goal.returns
-returns c = token-credit c.args.img.now c.args.t c.args.account c.requires.0 (omega arith) (omega arith) (omega arith) c.get_token_account_balance.ensures
+returns c =
+    let e = rw (c.from-i.ensures, c.from.ensures) at c.get_token_account_balance.ensures in
+    token-credit c.args.img.now c.args.t c.args.account c.requires.0 (omega arith) (omega arith) (omega arith) e

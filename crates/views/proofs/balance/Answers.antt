@@ -18,4 +18,4 @@ vault_balance-requires c = (search rules, initialised_free _ c.in_ok-initialised
 
 pub returns : goal.returns
 unfolding balance_outcome
-returns c = let i = initialised_free _ c.in_ok-initialised_check.ensures refl in view_accepted (sym c.in_ok-initialised_check.ensures) c.viewed.ensures (let d = default_holding c.args.img.now c.requires.0 i in omega (arith, c.vault_balance.ensures))
+returns c = let i = initialised_free _ c.in_ok-initialised_check.ensures refl in view_accepted (sym c.in_ok-initialised_check.ensures) c.viewed.ensures (let d = default_holding c.args.img.now c.requires i in omega (arith, c.vault_balance.ensures))

@@ -1,9 +1,6 @@
 -- `views::is_token_approved` meets its contract.
 use Rattle.views.specs.Views.{approved_outcome}
 use Rattle.outcome.specs.Outcome.{view_accepted}
-use Rattle.outcome.specs.FormedLaws.{token_in}
-use Rattle.record.specs.Form.{reads_token, member}
-use native.Mathlib.Omega.{arith}
 use mathlib.Core.Path.{refl}
 use mathlib.Core.Path.{ap, ◌∙◌}
 use Prim.Native.Nat.{ℕ, ◌+◌}
@@ -11,12 +8,8 @@ use Rattle.amount.specs.Biased.{bias}
 use Rattle.views.proofs.Steps.{byte_num}
 use Rattle.views.proofs.is_token_approved.Goals as goal
 
-pub contains-requires : goal.contains-requires
-unfolding reads_token member
-contains-requires c = let f = c.requires.1 in omega (arith, token_in f refl)
-
 pub returns : goal.returns
 unfolding approved_outcome
 returns c =
-    let d = rw (c.get64.ensures, c.token-t.ensures) at c.contains.ensures in
-    view_accepted refl c.viewed.ensures (c.from-2.ensures ∙ rw (c.from.ensures, ← d) (ap (λ (k : ℕ). bias + k) (byte_num c.contains.result)))
+    let d = rw c.get64.ensures at c.contains-approved.ensures in
+    view_accepted refl c.viewed.ensures (c.from-2.ensures ∙ rw (c.from.ensures, ← d) (ap (λ (k : ℕ). bias + k) (byte_num c.contains-approved.result)))
