@@ -41,7 +41,10 @@ fn pending_check(img: &Image, caller: u8) -> Result<(), Refusal>
     if !checks::has_flag(img, Flag::PendingOwner) {
         return Err(Refusal::NoPendingOwner);
     }
-    refusal::refuse_if(fields::get8(img, image::PENDING_OWNER) != caller, Refusal::NotPendingOwner)
+    refusal::refuse_if(
+        fields::get8(img, image::PENDING_OWNER) != caller,
+        Refusal::NotPendingOwner,
+    )
 }
 
 // 7, 17.
@@ -50,7 +53,9 @@ fn expired_check(img: &Image, time: u64) -> Result<(), Refusal>
 {
     let proposed_at = fields::get64(img, image::PROPOSED_AT);
     let time_to_live = fields::get64(img, image::TIME_TO_LIVE);
-    let expires_at = proposed_at.checked_add(time_to_live).ok_or(Refusal::ArithmeticOverflow)?;
+    let expires_at = proposed_at
+        .checked_add(time_to_live)
+        .ok_or(Refusal::ArithmeticOverflow)?;
     refusal::refuse_if(time >= expires_at, Refusal::PendingOwnerExpired)
 }
 
