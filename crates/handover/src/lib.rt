@@ -1,197 +1,115 @@
 // Operations 15 to 17: the owner is proposed and accepted, and how long a proposal lives (lib.rs).
 #![tactic(auto)]
 
-ghost use Rattle.std.specs.Prelude.{◌≡◌, [], ◌<◌, length};
+ghost use Rattle.std.specs.Prelude.{◌≡◌, []};
 ghost use Rattle.refusal.specs.Numbers.{code};
-ghost use Rattle.image.specs.Layout.{image_length};
 ghost use Rattle.storage.specs.Facts.{Good};
 ghost use Rattle.events.specs.Event.{event_buffer};
-ghost use Rattle.outcome.specs.Outcome.{Does, Formed};
-ghost use Rattle.handover.specs.Handover.{new_owner_number, propose_number, propose_outcome, propose_owner, pending_number, expired_number, accept_number, clear_pending, accept_outcome, accept_owner, ttl_number, proposal_ttl_number, proposal_ttl_outcome, set_owner_proposal_ttl};
+ghost use Rattle.outcome.specs.Outcome.{Does};
+ghost use Rattle.handover.specs.Handover.{propose_outcome, pending_number, expired_number, accept_number, clear_pending, accept_outcome, proposal_ttl_outcome};
 
-use events::Event;
-use image::Flag;
+use events::{Buffer, Event};
+use image::{Flag, Image};
 use outcome::Answer;
+use record::Head;
 use refusal::Refusal;
 
-// 14.
-fn new_owner_check(a: u8) -> Result<(), Refusal>
-    ensures { code result ≡ new_owner_number a }
-{
-    if a == 0 {
-        return Err(Refusal::InvalidParam);
-    }
-    Ok(())
-}
-
 // 1, 3, 22; 14.
-fn propose_check(img: &[u8], caller: u8, signers: u64, new_owner: u8) -> Result<(), Refusal>
-    requires { (length img.now ≡ image_length) × (caller < 64) }
-    ensures { code result ≡ propose_number img.now caller signers new_owner }
+pub fn propose_owner(img: &mut Image, head: Head, events: &mut Buffer) -> Answer
+    requires { Good img.old × (events.old ≡ event_buffer []) }
+    ensures { Does (propose_outcome img.old head.caller head.signers head.other head.timestamp) result img.new events.new }
 {
-    checks::owner_gate(img, caller, signers)?;
-    new_owner_check(new_owner)
-}
-
-fn propose_owner_of(
-    img: &mut [u8],
-    events: &mut [u8],
-    caller: u8,
-    signers: u64,
-    new_owner: u8,
-    time: u64,
-) -> Answer
-    requires { Good img.old × (caller < 64) × (events.old ≡ event_buffer []) }
-    ensures { Does (propose_outcome img.old caller signers new_owner time) result img.new events.new }
-{
-    propose_check(img, caller, signers, new_owner)?;
+    checks::owner_gate(img, head.caller, head.signers)?;
+    refusal::refuse_if(head.other == 0, Refusal::InvalidParam)?;
     storage::set_flag(img, Flag::PendingOwner);
-    fields::put8(img, 5, new_owner);
-    fields::put8(img, 6, caller);
-    fields::put64(img, 40, time);
-    Ok(outcome::announce(events, Event::OwnerProposed { caller, new_owner }))
-}
-
-pub fn propose_owner(img: &mut [u8], rec: &[u8], events: &mut [u8]) -> Answer
-    requires { Good img.old × Formed 15 rec.now × (events.old ≡ event_buffer []) }
-    ensures { Does (propose_owner img.old rec.now) result img.new events.new }
-{
-    let caller = record::caller(rec);
-    let signers = record::signers(rec);
-    let new_owner = record::other(rec);
-    propose_owner_of(
-        img,
+    fields::put8(img, image::PENDING_OWNER, head.other);
+    fields::put8(img, image::PROPOSER, head.caller);
+    fields::put64(img, image::PROPOSED_AT, head.timestamp);
+    Ok(outcome::announce(
         events,
-        caller,
-        signers,
-        new_owner,
-        record::timestamp(rec),
-    )
+        Event::OwnerProposed {
+            caller: head.caller,
+            new_owner: head.other,
+        },
+    ))
 }
 
 // 15, 16.
-fn pending_check(img: &[u8], caller: u8) -> Result<(), Refusal>
-    requires { length img.now ≡ image_length }
+fn pending_check(img: &Image, caller: u8) -> Result<(), Refusal>
     ensures { code result ≡ pending_number img.now caller }
 {
     if !checks::has_flag(img, Flag::PendingOwner) {
         return Err(Refusal::NoPendingOwner);
     }
-    if fields::get8(img, 5) != caller {
-        return Err(Refusal::NotPendingOwner);
-    }
-    Ok(())
+    refusal::refuse_if(
+        fields::get8(img, image::PENDING_OWNER) != caller,
+        Refusal::NotPendingOwner,
+    )
 }
 
 // 7, 17.
-fn expired_check(img: &[u8], time: u64) -> Result<(), Refusal>
-    requires { length img.now ≡ image_length }
+fn expired_check(img: &Image, time: u64) -> Result<(), Refusal>
     ensures { code result ≡ expired_number img.now time }
 {
-    let proposed_at = fields::get64(img, 40);
-    let ttl = fields::get64(img, 48);
-    if ttl > 18446744073709551615 - proposed_at {
-        return Err(Refusal::ArithmeticOverflow);
-    }
-    if time >= proposed_at + ttl {
-        return Err(Refusal::PendingOwnerExpired);
-    }
-    Ok(())
+    let proposed_at = fields::get64(img, image::PROPOSED_AT);
+    let time_to_live = fields::get64(img, image::TIME_TO_LIVE);
+    let expires_at = proposed_at
+        .checked_add(time_to_live)
+        .ok_or(Refusal::ArithmeticOverflow)?;
+    refusal::refuse_if(time >= expires_at, Refusal::PendingOwnerExpired)
 }
 
 // 15, 16; 22; 7, 17.
-fn accept_check(img: &[u8], caller: u8, signers: u64, time: u64) -> Result<(), Refusal>
-    requires { (length img.now ≡ image_length) × (caller < 64) }
-    ensures { code result ≡ accept_number img.now caller signers time }
+fn accept_check(img: &Image, head: Head) -> Result<(), Refusal>
+    ensures { code result ≡ accept_number img.now head.caller head.signers head.timestamp }
 {
-    pending_check(img, caller)?;
-    checks::signed_check(signers, caller)?;
-    expired_check(img, time)
+    pending_check(img, head.caller)?;
+    checks::signed_check(head.signers, head.caller)?;
+    expired_check(img, head.timestamp)
 }
 
-fn clear_pending(img: &mut [u8])
+fn clear_pending(img: &mut Image)
     requires { Good img.old }
     ensures { img.new ≡ clear_pending img.old }
 {
     storage::clear_flag(img, Flag::PendingOwner);
-    fields::put8(img, 5, 0);
-    fields::put8(img, 6, 0);
-    fields::put64(img, 40, 0);
+    fields::put8(img, image::PENDING_OWNER, 0);
+    fields::put8(img, image::PROPOSER, 0);
+    fields::put64(img, image::PROPOSED_AT, 0);
 }
 
-fn accept_owner_of(img: &mut [u8], events: &mut [u8], caller: u8, signers: u64, time: u64) -> Answer
-    requires { Good img.old × (caller < 64) × (events.old ≡ event_buffer []) }
-    ensures { Does (accept_outcome img.old caller signers time) result img.new events.new }
+pub fn accept_owner(img: &mut Image, head: Head, events: &mut Buffer) -> Answer
+    requires { Good img.old × (events.old ≡ event_buffer []) }
+    ensures { Does (accept_outcome img.old head.caller head.signers head.timestamp) result img.new events.new }
 {
-    accept_check(img, caller, signers, time)?;
-    let proposer = fields::get8(img, 6);
+    accept_check(img, head)?;
+    let proposer = fields::get8(img, image::PROPOSER);
     clear_pending(img);
-    fields::put8(img, 2, caller);
+    fields::put8(img, image::OWNER, head.caller);
     Ok(outcome::announce(
         events,
         Event::OwnerAccepted {
-            caller,
+            caller: head.caller,
             old_owner: proposer,
         },
     ))
 }
 
-pub fn accept_owner(img: &mut [u8], rec: &[u8], events: &mut [u8]) -> Answer
-    requires { Good img.old × Formed 16 rec.now × (events.old ≡ event_buffer []) }
-    ensures { Does (accept_owner img.old rec.now) result img.new events.new }
-{
-    let caller = record::caller(rec);
-    let signers = record::signers(rec);
-    accept_owner_of(img, events, caller, signers, record::timestamp(rec))
-}
-
-// 4.
-fn ttl_check(ttl: u64) -> Result<(), Refusal>
-    ensures { code result ≡ ttl_number ttl }
-{
-    if ttl == 0 {
-        return Err(Refusal::InvalidAmount);
-    }
-    Ok(())
-}
-
 // 1, 3, 22; 4.
-fn proposal_ttl_check(img: &[u8], caller: u8, signers: u64, ttl: u64) -> Result<(), Refusal>
-    requires { (length img.now ≡ image_length) × (caller < 64) }
-    ensures { code result ≡ proposal_ttl_number img.now caller signers ttl }
+pub fn set_owner_proposal_ttl(img: &mut Image, head: Head, events: &mut Buffer) -> Answer
+    requires { Good img.old × (events.old ≡ event_buffer []) }
+    ensures { Does (proposal_ttl_outcome img.old head.caller head.signers head.time_to_live) result img.new events.new }
 {
-    checks::owner_gate(img, caller, signers)?;
-    ttl_check(ttl)
-}
-
-fn set_owner_proposal_ttl_of(
-    img: &mut [u8],
-    events: &mut [u8],
-    caller: u8,
-    signers: u64,
-    ttl: u64,
-) -> Answer
-    requires { Good img.old × (caller < 64) × (events.old ≡ event_buffer []) }
-    ensures { Does (proposal_ttl_outcome img.old caller signers ttl) result img.new events.new }
-{
-    proposal_ttl_check(img, caller, signers, ttl)?;
-    let old = fields::get64(img, 48);
-    fields::put64(img, 48, ttl);
+    checks::owner_gate(img, head.caller, head.signers)?;
+    refusal::refuse_if(head.time_to_live == 0, Refusal::InvalidAmount)?;
+    let old = fields::get64(img, image::TIME_TO_LIVE);
+    fields::put64(img, image::TIME_TO_LIVE, head.time_to_live);
     Ok(outcome::announce(
         events,
         Event::OwnerProposalTtlSet {
-            caller,
+            caller: head.caller,
             old_ttl: old,
-            new_ttl: ttl,
+            new_ttl: head.time_to_live,
         },
     ))
-}
-
-pub fn set_owner_proposal_ttl(img: &mut [u8], rec: &[u8], events: &mut [u8]) -> Answer
-    requires { Good img.old × Formed 17 rec.now × (events.old ≡ event_buffer []) }
-    ensures { Does (set_owner_proposal_ttl img.old rec.now) result img.new events.new }
-{
-    let caller = record::caller(rec);
-    let signers = record::signers(rec);
-    set_owner_proposal_ttl_of(img, events, caller, signers, record::time_to_live(rec))
 }

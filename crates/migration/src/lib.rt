@@ -1,118 +1,83 @@
 // Operations 21 to 23: the emergency migration of the vault's holding to a destination (lib.rs).
 #![tactic(auto)]
 
-ghost use Rattle.std.specs.Prelude.{OnOk, ◌≡◌, [], ◌<◌, length};
+ghost use Rattle.std.specs.Prelude.{IfOk, OnOk, ◌≡◌, [], ◌+◌};
 ghost use Rattle.refusal.specs.Numbers.{code};
 ghost use Rattle.amount.specs.Biased.{biased};
-ghost use Rattle.image.specs.Layout.{image_length, initialised};
+ghost use Rattle.image.specs.Layout.{initialised};
 ghost use Rattle.storage.specs.Facts.{Good};
 ghost use Rattle.token.specs.Token.{vault_balance};
 ghost use Rattle.events.specs.Event.{event_buffer};
-ghost use Rattle.outcome.specs.Outcome.{Does, Formed};
-ghost use Rattle.migration.specs.Migration.{proposal_number, initiate_number, initiate_outcome, initiate_emergency_migration, no_migration_number, early_number, execute_checks, migrate_number, migrate_holding, clear_migration, execute_outcome, execute_emergency_migration, cancel_number, cancel_outcome, cancel_emergency_migration};
+ghost use Rattle.outcome.specs.Outcome.{Does};
+ghost use Rattle.migration.specs.Migration.{timelock, proposal_number, initiate_outcome, no_migration_number, execute_checks, migrate_number, migrate_holding, clear_migration, execute_outcome, cancel_outcome};
 
 use amount::Amount;
-use events::Event;
-use image::Flag;
+use events::{Buffer, Event};
+use image::{Flag, Image};
 use outcome::Answer;
+use record::Head;
 use refusal::Refusal;
 
 // EMERGENCY_MIGRATION_TIMELOCK_SECONDS: 48 hours.
-const TIMELOCK: u64 = 172800;
+const TIMELOCK: u64 = 172_800;
 
-// 14, 7.
-fn proposal_check(to: u8, time: u64) -> Result<(), Refusal>
-    ensures { code result ≡ proposal_number to time }
+// 14, 7; when the migration may be executed.
+fn proposal_check(to: u8, time: u64) -> Result<u64, Refusal>
+    ensures number { code result ≡ proposal_number to time }
+    ensures executable_at { IfOk result (λ t. t ≡ time + timelock) }
 {
     if to == 0 {
         return Err(Refusal::InvalidParam);
     }
-    if 18446744073709551615 - time < TIMELOCK {
-        return Err(Refusal::ArithmeticOverflow);
-    }
-    Ok(())
+    time.checked_add(TIMELOCK)
+        .ok_or(Refusal::ArithmeticOverflow)
 }
 
 // 1, 3, 22; 14, 7.
-fn initiate_check(img: &[u8], caller: u8, signers: u64, to: u8, time: u64) -> Result<(), Refusal>
-    requires { (length img.now ≡ image_length) × (caller < 64) }
-    ensures { code result ≡ initiate_number img.now caller signers to time }
+pub fn initiate_emergency_migration(img: &mut Image, head: Head, events: &mut Buffer) -> Answer
+    requires { Good img.old × (events.old ≡ event_buffer []) }
+    ensures { Does (initiate_outcome img.old head.caller head.signers head.other head.timestamp) result img.new events.new }
 {
-    checks::owner_gate(img, caller, signers)?;
-    proposal_check(to, time)
-}
-
-fn initiate_emergency_migration_of(
-    img: &mut [u8],
-    events: &mut [u8],
-    caller: u8,
-    signers: u64,
-    to: u8,
-    time: u64,
-) -> Answer
-    requires { Good img.old × (caller < 64) × (events.old ≡ event_buffer []) }
-    ensures { Does (initiate_outcome img.old caller signers to time) result img.new events.new }
-{
-    initiate_check(img, caller, signers, to, time)?;
-    let executable_at = time + TIMELOCK;
+    checks::owner_gate(img, head.caller, head.signers)?;
+    let executable_at = proposal_check(head.other, head.timestamp)?;
     storage::set_flag(img, Flag::Migration);
-    fields::put8(img, 7, to);
-    fields::put64(img, 56, time);
-    fields::put64(img, 64, executable_at);
+    fields::put8(img, image::DESTINATION, head.other);
+    fields::put64(img, image::MIGRATION_PROPOSED_AT, head.timestamp);
+    fields::put64(img, image::EXECUTABLE_AT, executable_at);
     Ok(outcome::announce(
         events,
         Event::EmergencyMigrationInitiated {
-            caller,
-            destination: to,
+            caller: head.caller,
+            destination: head.other,
             executable_at,
         },
     ))
 }
 
-pub fn initiate_emergency_migration(img: &mut [u8], rec: &[u8], events: &mut [u8]) -> Answer
-    requires { Good img.old × Formed 21 rec.now × (events.old ≡ event_buffer []) }
-    ensures { Does (initiate_emergency_migration img.old rec.now) result img.new events.new }
-{
-    let caller = record::caller(rec);
-    let signers = record::signers(rec);
-    let to = record::other(rec);
-    initiate_emergency_migration_of(img, events, caller, signers, to, record::timestamp(rec))
-}
-
 // 20.
-fn migration_check(img: &[u8]) -> Result<(), Refusal>
-    requires { length img.now ≡ image_length }
+fn migration_check(img: &Image) -> Result<(), Refusal>
     ensures { code result ≡ no_migration_number img.now }
 {
-    if !checks::has_flag(img, Flag::Migration) {
-        return Err(Refusal::NoMigrationProposed);
-    }
-    Ok(())
-}
-
-// 21.
-fn early_check(img: &[u8], time: u64) -> Result<(), Refusal>
-    requires { length img.now ≡ image_length }
-    ensures { code result ≡ early_number img.now time }
-{
-    if time < fields::get64(img, 64) {
-        return Err(Refusal::TimelockNotExpired);
-    }
-    Ok(())
+    refusal::refuse_if(
+        !checks::has_flag(img, Flag::Migration),
+        Refusal::NoMigrationProposed,
+    )
 }
 
 // 1, 3, 22; 20; 21.
-fn execute_check(img: &[u8], caller: u8, signers: u64, time: u64) -> Result<(), Refusal>
-    requires { (length img.now ≡ image_length) × (caller < 64) }
-    ensures { code result ≡ execute_checks img.now caller signers time }
+fn execute_check(img: &Image, head: Head) -> Result<(), Refusal>
+    ensures { code result ≡ execute_checks img.now head.caller head.signers head.timestamp }
 {
-    checks::owner_gate(img, caller, signers)?;
+    checks::owner_gate(img, head.caller, head.signers)?;
     migration_check(img)?;
-    early_check(img, time)
+    refusal::refuse_if(
+        head.timestamp < fields::get64(img, image::EXECUTABLE_AT),
+        Refusal::TimelockNotExpired,
+    )
 }
 
 // 23; a holding of 0 makes no transfer.
-fn migrate_holding(img: &mut [u8], held: Amount) -> Result<(), Refusal>
+fn migrate_holding(img: &mut Image, held: Amount) -> Result<(), Refusal>
     requires { Good img.old × (initialised img.old ≡ 1) × (biased held ≡ vault_balance img.old) }
     ensures value { code result ≡ migrate_number img.old }
     ensures img_after { OnOk result (img.new ≡ migrate_holding img.old) }
@@ -120,40 +85,34 @@ fn migrate_holding(img: &mut [u8], held: Amount) -> Result<(), Refusal>
     if !held.is_positive() {
         return Ok(());
     }
-    let t = fields::get8(img, 3);
-    let to = fields::get8(img, 7);
-    token::transfer(img, t as usize, 1, to as usize, held)
+    let t = usize::from(fields::get8(img, image::DEFAULT_TOKEN));
+    let to = usize::from(fields::get8(img, image::DESTINATION));
+    token::transfer(img, t, 1, to, held)
 }
 
-fn clear_migration(img: &mut [u8])
+fn clear_migration(img: &mut Image)
     requires { Good img.old }
     ensures { img.new ≡ clear_migration img.old }
 {
     storage::clear_flag(img, Flag::Migration);
-    fields::put8(img, 7, 0);
-    fields::put64(img, 56, 0);
-    fields::put64(img, 64, 0);
+    fields::put8(img, image::DESTINATION, 0);
+    fields::put64(img, image::MIGRATION_PROPOSED_AT, 0);
+    fields::put64(img, image::EXECUTABLE_AT, 0);
 }
 
-fn execute_emergency_migration_of(
-    img: &mut [u8],
-    events: &mut [u8],
-    caller: u8,
-    signers: u64,
-    time: u64,
-) -> Answer
-    requires { Good img.old × (caller < 64) × (events.old ≡ event_buffer []) }
-    ensures { Does (execute_outcome img.old caller signers time) result img.new events.new }
+pub fn execute_emergency_migration(img: &mut Image, head: Head, events: &mut Buffer) -> Answer
+    requires { Good img.old × (events.old ≡ event_buffer []) }
+    ensures { Does (execute_outcome img.old head.caller head.signers head.timestamp) result img.new events.new }
 {
-    execute_check(img, caller, signers, time)?;
-    let to = fields::get8(img, 7);
+    execute_check(img, head)?;
+    let to = fields::get8(img, image::DESTINATION);
     let held = token::vault_balance(img);
     migrate_holding(img, held)?;
     clear_migration(img);
     Ok(outcome::announce_value(
         events,
         Event::EmergencyMigrationExecuted {
-            caller,
+            caller: head.caller,
             destination: to,
             amount: held,
         },
@@ -161,42 +120,18 @@ fn execute_emergency_migration_of(
     ))
 }
 
-pub fn execute_emergency_migration(img: &mut [u8], rec: &[u8], events: &mut [u8]) -> Answer
-    requires { Good img.old × Formed 22 rec.now × (events.old ≡ event_buffer []) }
-    ensures { Does (execute_emergency_migration img.old rec.now) result img.new events.new }
-{
-    let caller = record::caller(rec);
-    let signers = record::signers(rec);
-    execute_emergency_migration_of(img, events, caller, signers, record::timestamp(rec))
-}
-
 // 1, 3, 22; 20.
-fn cancel_check(img: &[u8], caller: u8, signers: u64) -> Result<(), Refusal>
-    requires { (length img.now ≡ image_length) × (caller < 64) }
-    ensures { code result ≡ cancel_number img.now caller signers }
+pub fn cancel_emergency_migration(img: &mut Image, head: Head, events: &mut Buffer) -> Answer
+    requires { Good img.old × (events.old ≡ event_buffer []) }
+    ensures { Does (cancel_outcome img.old head.caller head.signers) result img.new events.new }
 {
-    checks::owner_gate(img, caller, signers)?;
-    migration_check(img)
-}
-
-fn cancel_emergency_migration_of(
-    img: &mut [u8],
-    events: &mut [u8],
-    caller: u8,
-    signers: u64,
-) -> Answer
-    requires { Good img.old × (caller < 64) × (events.old ≡ event_buffer []) }
-    ensures { Does (cancel_outcome img.old caller signers) result img.new events.new }
-{
-    cancel_check(img, caller, signers)?;
+    checks::owner_gate(img, head.caller, head.signers)?;
+    migration_check(img)?;
     clear_migration(img);
-    Ok(outcome::announce(events, Event::EmergencyMigrationCancelled { caller }))
-}
-
-pub fn cancel_emergency_migration(img: &mut [u8], rec: &[u8], events: &mut [u8]) -> Answer
-    requires { Good img.old × Formed 23 rec.now × (events.old ≡ event_buffer []) }
-    ensures { Does (cancel_emergency_migration img.old rec.now) result img.new events.new }
-{
-    let caller = record::caller(rec);
-    cancel_emergency_migration_of(img, events, caller, record::signers(rec))
+    Ok(outcome::announce(
+        events,
+        Event::EmergencyMigrationCancelled {
+            caller: head.caller,
+        },
+    ))
 }

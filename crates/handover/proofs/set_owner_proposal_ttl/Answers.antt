@@ -1,13 +1,21 @@
 -- `handover::set_owner_proposal_ttl` meets its contract.
-use Rattle.outcome.specs.FormedLaws.{caller_in}
-use Rattle.record.specs.Form.{reads_caller, member}
-use native.Mathlib.Omega.{arith}
-use mathlib.Core.Path.{refl}
+use Rattle.std.proofs.Common.{refl, sym, ◌∙◌, arith}
+use Rattle.fields.specs.Rules.{link, only}
+use Rattle.refusal.specs.Laws.{refused_at}
+use Rattle.outcome.specs.Outcome.{refused, announced}
+use Rattle.handover.specs.Handover.{ttl_number, proposal_ttl_number, proposal_ttl_outcome}
 use Rattle.handover.proofs.set_owner_proposal_ttl.Goals as goal
 
-pub set_owner_proposal_ttl_of-requires : goal.set_owner_proposal_ttl_of-requires
-unfolding reads_caller member
-set_owner_proposal_ttl_of-requires c = let f = c.requires.1 in (c.requires.0, omega (arith, caller_in f refl), c.requires.2)
+pub returns-in_err-owner_gate : goal.returns-in_err-owner_gate
+unfolding proposal_ttl_outcome proposal_ttl_number
+returns-in_err-owner_gate c = refused _ c.from_residual.ensures (refused_at _ 0 _ tt c.in_err-owner_gate.ensures)
+
+pub returns-in_err-refuse_if : goal.returns-in_err-refuse_if
+unfolding proposal_ttl_outcome proposal_ttl_number ttl_number
+returns-in_err-refuse_if c = refused _ c.from_residual-in_err-refuse_if.ensures (refused_at _ 1 _ (omega arith) (c.in_err-refuse_if.ensures ∙ only _ 4 refl))
 
 pub returns : goal.returns
-returns c = rw (c.caller-caller.ensures, c.signers-signers.ensures, c.time_to_live.ensures) at c.set_owner_proposal_ttl_of.ensures
+unfolding proposal_ttl_outcome proposal_ttl_number ttl_number
+returns c =
+    let allowed = c.in_ok-refuse_if.ensures ∙ only _ 4 refl in
+    announced (sym (link _ 2 (sym c.in_ok-owner_gate.ensures, (sym allowed, tt)))) (rw c.get64-old.ensures) c.announce.ensures (rw c.put64.ensures)

@@ -18,5 +18,5 @@ transfer-requires c = let h = ltb-true bias (biased c.args.held) (sym c.is_posit
 pub returns : goal.returns
 returns c = let h = ltb-true bias (biased c.args.held) (sym c.is_positive.ensures ∙ c.if-not-is_positive.false) in
     let t = c.transfer.ensures in
-    let h = all_moved c.args.img.now c.requires.2 (omega arith) c.get8-t.ensures c.get8-to.ensures (t.value, t.img_after) in
+    let h = all_moved c.args.img.now c.requires.2 (omega arith) (c.from-t.ensures ∙ c.get8.ensures) (c.from-to.ensures ∙ c.get8-2.ensures) (t.value, t.img_after) in
     record { value = h.0; img_after = on_ok _ h.1 }

@@ -1,13 +1,14 @@
 -- `setup::initialize` meets its contract.
-use Rattle.outcome.specs.FormedLaws.{caller_in, token_in}
-use Rattle.record.specs.Form.{reads_caller, reads_token, member}
-use native.Mathlib.Omega.{arith}
 use mathlib.Core.Path.{refl}
+use Rattle.setup.specs.Setup.{initialize_outcome}
+use Rattle.outcome.specs.Outcome.{refused, announced}
+use mathlib.Core.Path.{sym}
 use Rattle.setup.proofs.initialize.Goals as goal
 
-pub initialize_of-requires : goal.initialize_of-requires
-unfolding reads_caller reads_token member
-initialize_of-requires c = let f = c.requires.1 in (c.requires.0, omega (arith, caller_in f refl), omega (arith, token_in f refl), c.requires.2)
+pub returns-in_err-initialize_check : goal.returns-in_err-initialize_check
+unfolding initialize_outcome
+returns-in_err-initialize_check c = refused _ c.from_residual.ensures c.in_err-initialize_check.ensures
 
 pub returns : goal.returns
-returns c = rw (c.caller-caller.ensures, c.signers-signers.ensures, c.token-t.ensures, c.amount.ensures) at c.initialize_of.ensures
+unfolding initialize_outcome
+returns c = announced (sym c.in_ok-initialize_check.ensures) refl c.announce.ensures (rw c.initialize_image.ensures)
