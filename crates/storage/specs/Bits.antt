@@ -1,9 +1,11 @@
 -- Bits of a set, at any place.
 use Rattle.std.specs.Prelude.{◌≡◌, ℕ, suc, ◌+◌, ◌-◌, ◌*◌, ◌/◌, ◌%◌, ◌^◌, ◌≤◌, ◌<◌, List, length}
-use Rattle.std.proofs.Common.{sym, ap, ◌∙◌, pow-suc, mul-zero, mul-one, one-mul, add-mul, mod-lt, add-zero, arith, pow_pos, pow-add, shr-shr, shr_lt, shl_exact}
-use Rattle.std.proofs.Math.Nat.{add-div_right, add-mul-div_right, sub-zero, div-eq_of_lt}
-use Rattle.std.proofs.Math.Pow.{split, field, mod-mod-pow}
-use Rattle.std.proofs.Math.Arith.{digits_lt}
+use Rattle.std.proofs.Common.{refl, sym, zero-mul, ap, ◌∙◌, pow-suc, mul-zero, mul-one, one-mul, add-zero, arith, pow_pos, pow-add, shr-shr, shl_exact}
+use Rattle.std.proofs.Math.Nat.{add-div_right, add-mul-div_right, sub-zero}
+use Rattle.std.proofs.Math.Pow.{field, mod-mod-pow}
+use Rattle.std.specs.Int.Bits.{bit_and, bit_or, or_add_and}
+use Rattle.std.proofs.lemmas.Nat.{pow_below, and-not, and_comm}
+use Rattle.std.proofs.lemmas.Nat.Bits.{and_pow}
 use Rattle.image.specs.Layout.{bit, with_bit, without_bit}
 use Rattle.amount.specs.Laws.{by_lt}
 use Rattle.fields.specs.Bytes.{le, put, le-put-same, put_low}
@@ -73,34 +75,34 @@ bit_mod x c h =
     let s : suc d ≡ d + 1 = omega arith in
     rw p (ap (λ (k : ℕ). x / 2 ^ c % 2 ^ k % 2) s ∙ mod-mod-pow (x / 2 ^ c) d 1)
 
--- ---- the sum that sets a bit of a number of 64 bits
+-- ---- the mask of a bit, and a bit taken off
 pub shifted_one : (k : ℕ) → k < 64 → (1 * 2 ^ k) % 2 ^ 64 ≡ 2 ^ k
 shifted_one k h = shl_exact {a = 1} 1 k 64 (omega arith) (omega arith) ∙ one-mul (2 ^ k)
 
-pub set-fits : (x k : ℕ) → x < 2 ^ 64 → k < 64 → bit x k ≡ 0 → x + 2 ^ k < 2 ^ 64
-set-fits x k b h z =
-    let d = 63 - k in
-    let e : suc d + k ≡ 64 = omega arith in
-    let q = x / 2 ^ k in
-    let small : q < 2 ^ suc d = shr_lt (suc d) k (rw e b) in
-    let next : q + 1 < 2 ^ suc d = rw (pow-suc 2 d) (even q (2 ^ d) z (rw (pow-suc 2 d) at small)) in
-    let whole : 2 ^ 64 ≡ 2 ^ suc d * 2 ^ k = ap (λ (j : ℕ). 2 ^ j) (sym e) ∙ pow-add 2 (suc d) k in
-    let parts : (q + 1) * 2 ^ k + x % 2 ^ k ≡ x + 2 ^ k = rw (add-mul q 1 (2 ^ k), one-mul) (omega (arith, split x k)) in
-    let less : (q + 1) * 2 ^ k + x % 2 ^ k < 2 ^ suc d * 2 ^ k = digits_lt next (mod-lt x (pow_pos k)) in
-    omega arith
-  where
-    even : (q m : ℕ) → q % 2 ≡ 0 → q < m * 2 → q + 1 < m * 2
-    even q m z h = omega arith
-
--- ---- a bit taken off
 pub without_off : (x a : ℕ) → bit x a ≡ 0 → without_bit x a ≡ x
 without_off x a e = rw (e, mul-zero, sub-zero)
 
 pub without_on : (x a : ℕ) → bit x a ≡ 1 → without_bit x a ≡ x - 2 ^ a
 without_on x a e = rw (e, mul-one)
 
-pub bit_there : (x a : ℕ) → bit x a ≡ 1 → 2 ^ a ≤ x
-bit_there x a e =
-    by_lt x (2 ^ a) (2 ^ a ≤ x)
-    (λ h. let z : x / 2 ^ a ≡ 0 = div-eq_of_lt h in absurd (omega arith))
-    (λ h. h)
+masked_off : (x k : ℕ) → bit x k ≡ 0 → bit_and x (2 ^ k) ≡ 0
+masked_off x k z = and_pow x k ∙ rw (z, zero-mul) refl
+
+masked_on : (x k : ℕ) → bit x k ≡ 1 → bit_and x (2 ^ k) ≡ 2 ^ k
+masked_on x k o = and_pow x k ∙ rw (o, one-mul) refl
+
+pub or_bit : (x k : ℕ) → bit_or x (2 ^ k) ≡ with_bit x k
+or_bit x k =
+    let both = or_add_and x (2 ^ k) in
+    by_bit (x / 2 ^ k) (bit_or x (2 ^ k) ≡ with_bit x k)
+    (λ z. let a = masked_off x k z in let e = with_off x k z in omega arith)
+    (λ o. let a = masked_on x k o in let e = with_on x k o in omega arith)
+
+pub and-not_bit : (x k : ℕ) → x < 2 ^ 64 → k < 64 → bit_and x (2 ^ 64 - 1 - 2 ^ k) ≡ without_bit x k
+and-not_bit x k b h =
+    let rest = and-not 64 (2 ^ k) x (pow_below k 64 h) b in
+    let turned = and_comm x (2 ^ 64 - 1 - 2 ^ k) in
+    let mask = and_comm (2 ^ k) x in
+    by_bit (x / 2 ^ k) (bit_and x (2 ^ 64 - 1 - 2 ^ k) ≡ without_bit x k)
+    (λ z. let a = masked_off x k z in let e = without_off x k z in omega arith)
+    (λ o. let a = masked_on x k o in let e = without_on x k o in omega arith)

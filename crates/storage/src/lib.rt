@@ -45,14 +45,21 @@ pub fn get_token_account_balance(img: &Image, t: usize, account: usize) -> Amoun
     requires { (48 ≤ t) × (t < 64) × (account < 64) }
     ensures { biased result ≡ credit img.now (slot t) account }
 {
-    amount::read_amount(img, image::CREDITS + 1024 * (t - image::FIRST_TOKEN) + 16 * account)
+    amount::read_amount(
+        img,
+        image::CREDITS + 1024 * (t - image::FIRST_TOKEN) + 16 * account,
+    )
 }
 
 pub fn set_token_account_balance(img: &mut Image, t: usize, account: usize, balance: Amount)
     requires { Keys img.old × (48 ≤ t) × (t < 64) × (account < 64) }
     ensures { img.new ≡ set_credit img.old t account (biased balance) }
 {
-    amount::write_amount(img, image::CREDITS + 1024 * (t - image::FIRST_TOKEN) + 16 * account, balance);
+    amount::write_amount(
+        img,
+        image::CREDITS + 1024 * (t - image::FIRST_TOKEN) + 16 * account,
+        balance,
+    );
     track_vault_key(img, (64 * (t - image::FIRST_TOKEN) + account) as u16);
 }
 
@@ -61,10 +68,7 @@ pub fn with_bit(set: u64, k: u64) -> u64
     requires { k < 64 }
     ensures { result ≡ with_bit set k }
 {
-    if (set >> k) % 2 == 1 {
-        return set;
-    }
-    set + (1 << k)
+    set | 1 << k
 }
 
 // The set with bit k, below 64, cleared.
@@ -72,10 +76,7 @@ pub fn without_bit(set: u64, k: u64) -> u64
     requires { k < 64 }
     ensures { result ≡ without_bit set k }
 {
-    if (set >> k) % 2 == 0 {
-        return set;
-    }
-    set - (1 << k)
+    set & !(1 << k)
 }
 
 pub fn set_flag(img: &mut Image, flag: Flag)

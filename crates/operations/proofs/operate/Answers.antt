@@ -1,183 +1,156 @@
 -- `operations::operate` meets its contract.
-use Rattle.operations.proofs.Dispatched.{rest_is_30}
+use mathlib.Core.Path.{refl}
 use Rattle.operations.specs.Operations.{outcome_of}
-use Rattle.outcome.specs.Outcome.{formed_as}
-use Rattle.record.specs.Laws.{form_operation}
-use mathlib.Core.Path.{sym, ap, ◌∙◌}
-use Rattle.record.specs.Form.{is_view}
+use Rattle.record.specs.Form.{reads_caller, reads_token, reads_other, reads_flag, reads_items, member}
+use Rattle.record.specs.Head.{head_operation, head_caller, head_token, head_other, head_flag, head_count, head_item}
+use Rattle.record.specs.declared.operation.Operation.TheVariants.{Initialize, Deposit, DepositWithFee, BatchDeposit, Withdraw, WithdrawBatch, DepositToken, WithdrawToken, DepositWithFailureReport, SetOperatorWithdrawLimit, SetLimit, SetTokenMaxLimit, SetOperator, RevokeOperator, ProposeOwner, AcceptOwner, SetOwnerProposalTtl, Pause, Unpause, ApproveToken, InitiateEmergencyMigration, ExecuteEmergencyMigration, CancelEmergencyMigration, OutsideMove, Freeze, View}
+use Rattle.payouts.specs.Laws.{addressed}
 use Rattle.operations.proofs.operate.Goals as goal
 
 pub initialize-requires : goal.initialize-requires
-initialize-requires c = (c.requires.0, formed_as 1 c.args.rec.now c.requires.1 (sym c.operation-o.ensures ∙ c.in-1.is), c.requires.3)
+unfolding reads_token member
+initialize-requires c = (c.requires.0, head_token c.args.rec.now c.args.head Initialize c.requires.1 c.requires.2 c.in-Initialize.is refl, c.requires.3)
 
 pub deposit-requires : goal.deposit-requires
-deposit-requires c = (c.requires.0, formed_as 2 c.args.rec.now c.requires.1 (sym c.operation-o.ensures ∙ c.in-2.is), c.requires.3)
+unfolding reads_caller member
+deposit-requires c = (c.requires.0, head_caller c.args.rec.now c.args.head Deposit c.requires.1 c.requires.2 c.in-Deposit.is refl, c.requires.3)
 
 pub deposit_with_fee-requires : goal.deposit_with_fee-requires
-deposit_with_fee-requires c = (c.requires.0, formed_as 3 c.args.rec.now c.requires.1 (sym c.operation-o.ensures ∙ c.in-3.is), c.requires.3)
+unfolding reads_caller member
+deposit_with_fee-requires c = (c.requires.0, head_caller c.args.rec.now c.args.head DepositWithFee c.requires.1 c.requires.2 c.in-DepositWithFee.is refl, c.requires.3)
 
 pub batch_deposit-requires : goal.batch_deposit-requires
-batch_deposit-requires c = (c.requires.0, formed_as 4 c.args.rec.now c.requires.1 (sym c.operation-o.ensures ∙ c.in-4.is), c.requires.3)
+unfolding reads_items member
+batch_deposit-requires c = record { good = (c.requires.0, head_count c.args.rec.now c.args.head BatchDeposit c.requires.1 c.requires.2 c.in-BatchDeposit.is refl, c.requires.3); by_index = head_item c.args.rec.now c.args.head BatchDeposit c.requires.1 c.requires.2 c.in-BatchDeposit.is refl; }
 
 pub withdraw-requires : goal.withdraw-requires
-withdraw-requires c = (c.requires.0, formed_as 5 c.args.rec.now c.requires.1 (sym c.operation-o.ensures ∙ c.in-5.is), c.requires.3)
+unfolding reads_other member
+withdraw-requires c = (c.requires.0, head_other c.args.rec.now c.args.head Withdraw c.requires.1 c.requires.2 c.in-Withdraw.is refl, c.requires.3)
 
 pub withdraw_batch-requires : goal.withdraw_batch-requires
-withdraw_batch-requires c = (c.requires.0, formed_as 6 c.args.rec.now c.requires.1 (sym c.operation-o.ensures ∙ c.in-6.is), c.requires.3)
+unfolding reads_items member
+withdraw_batch-requires c = record { good = (c.requires.0, head_count c.args.rec.now c.args.head WithdrawBatch c.requires.1 c.requires.2 c.in-WithdrawBatch.is refl, c.requires.3); addressed = addressed _ _ _ (head_item c.args.rec.now c.args.head WithdrawBatch c.requires.1 c.requires.2 c.in-WithdrawBatch.is refl); }
 
 pub deposit_token-requires : goal.deposit_token-requires
-deposit_token-requires c = (c.requires.0, formed_as 7 c.args.rec.now c.requires.1 (sym c.operation-o.ensures ∙ c.in-7.is), c.requires.3)
+unfolding reads_caller reads_token member
+deposit_token-requires c = (c.requires.0, head_caller c.args.rec.now c.args.head DepositToken c.requires.1 c.requires.2 c.in-DepositToken.is refl, head_token c.args.rec.now c.args.head DepositToken c.requires.1 c.requires.2 c.in-DepositToken.is refl, c.requires.3)
 
 pub withdraw_token-requires : goal.withdraw_token-requires
-withdraw_token-requires c = (c.requires.0, formed_as 8 c.args.rec.now c.requires.1 (sym c.operation-o.ensures ∙ c.in-8.is), c.requires.3)
+unfolding reads_caller reads_other member
+withdraw_token-requires c = (c.requires.0, head_caller c.args.rec.now c.args.head WithdrawToken c.requires.1 c.requires.2 c.in-WithdrawToken.is refl, head_other c.args.rec.now c.args.head WithdrawToken c.requires.1 c.requires.2 c.in-WithdrawToken.is refl, c.requires.3)
 
 pub deposit_with_failure_report-requires : goal.deposit_with_failure_report-requires
-deposit_with_failure_report-requires c = (c.requires.0, formed_as 9 c.args.rec.now c.requires.1 (sym c.operation-o.ensures ∙ c.in-9.is), c.requires.3)
-
-pub set_operator_withdraw_limit-requires : goal.set_operator_withdraw_limit-requires
-set_operator_withdraw_limit-requires c = (c.requires.0, formed_as 10 c.args.rec.now c.requires.1 (sym c.operation-o.ensures ∙ c.in-10.is), c.requires.3)
-
-pub set_limit-requires : goal.set_limit-requires
-set_limit-requires c = (c.requires.0, formed_as 11 c.args.rec.now c.requires.1 (sym c.operation-o.ensures ∙ c.in-11.is), c.requires.3)
+unfolding reads_caller member
+deposit_with_failure_report-requires c = (c.requires.0, head_caller c.args.rec.now c.args.head DepositWithFailureReport c.requires.1 c.requires.2 c.in-DepositWithFailureReport.is refl, c.requires.3)
 
 pub set_token_max_limit-requires : goal.set_token_max_limit-requires
-set_token_max_limit-requires c = (c.requires.0, formed_as 12 c.args.rec.now c.requires.1 (sym c.operation-o.ensures ∙ c.in-12.is), c.requires.3)
-
-pub set_operator-requires : goal.set_operator-requires
-set_operator-requires c = (c.requires.0, formed_as 13 c.args.rec.now c.requires.1 (sym c.operation-o.ensures ∙ c.in-13.is), c.requires.3)
-
-pub revoke_operator-requires : goal.revoke_operator-requires
-revoke_operator-requires c = (c.requires.0, formed_as 14 c.args.rec.now c.requires.1 (sym c.operation-o.ensures ∙ c.in-14.is), c.requires.3)
-
-pub propose_owner-requires : goal.propose_owner-requires
-propose_owner-requires c = (c.requires.0, formed_as 15 c.args.rec.now c.requires.1 (sym c.operation-o.ensures ∙ c.in-15.is), c.requires.3)
-
-pub accept_owner-requires : goal.accept_owner-requires
-accept_owner-requires c = (c.requires.0, formed_as 16 c.args.rec.now c.requires.1 (sym c.operation-o.ensures ∙ c.in-16.is), c.requires.3)
-
-pub set_owner_proposal_ttl-requires : goal.set_owner_proposal_ttl-requires
-set_owner_proposal_ttl-requires c = (c.requires.0, formed_as 17 c.args.rec.now c.requires.1 (sym c.operation-o.ensures ∙ c.in-17.is), c.requires.3)
-
-pub pause-requires : goal.pause-requires
-pause-requires c = (c.requires.0, formed_as 18 c.args.rec.now c.requires.1 (sym c.operation-o.ensures ∙ c.in-18.is), c.requires.3)
-
-pub unpause-requires : goal.unpause-requires
-unpause-requires c = (c.requires.0, formed_as 19 c.args.rec.now c.requires.1 (sym c.operation-o.ensures ∙ c.in-19.is), c.requires.3)
+unfolding reads_token member
+set_token_max_limit-requires c = (c.requires.0, head_token c.args.rec.now c.args.head SetTokenMaxLimit c.requires.1 c.requires.2 c.in-SetTokenMaxLimit.is refl, c.requires.3)
 
 pub approve_token-requires : goal.approve_token-requires
-approve_token-requires c = (c.requires.0, formed_as 20 c.args.rec.now c.requires.1 (sym c.operation-o.ensures ∙ c.in-20.is), c.requires.3)
-
-pub initiate_emergency_migration-requires : goal.initiate_emergency_migration-requires
-initiate_emergency_migration-requires c = (c.requires.0, formed_as 21 c.args.rec.now c.requires.1 (sym c.operation-o.ensures ∙ c.in-21.is), c.requires.3)
-
-pub execute_emergency_migration-requires : goal.execute_emergency_migration-requires
-execute_emergency_migration-requires c = (c.requires.0, formed_as 22 c.args.rec.now c.requires.1 (sym c.operation-o.ensures ∙ c.in-22.is), c.requires.3)
-
-pub cancel_emergency_migration-requires : goal.cancel_emergency_migration-requires
-cancel_emergency_migration-requires c = (c.requires.0, formed_as 23 c.args.rec.now c.requires.1 (sym c.operation-o.ensures ∙ c.in-23.is), c.requires.3)
+unfolding reads_token member
+approve_token-requires c = (c.requires.0, head_token c.args.rec.now c.args.head ApproveToken c.requires.1 c.requires.2 c.in-ApproveToken.is refl, c.requires.3)
 
 pub outside_move-requires : goal.outside_move-requires
-outside_move-requires c = (c.requires.0, formed_as 29 c.args.rec.now c.requires.1 (sym c.operation-o.ensures ∙ c.in-29.is), c.requires.3)
+unfolding reads_caller reads_other member
+outside_move-requires c = (c.requires.0, head_caller c.args.rec.now c.args.head OutsideMove c.requires.1 c.requires.2 c.in-OutsideMove.is refl, head_other c.args.rec.now c.args.head OutsideMove c.requires.1 c.requires.2 c.in-OutsideMove.is refl, c.requires.3)
 
-pub freeze-requires : goal.freeze-requires
-freeze-requires c = let e = c.operation-o.ensures in (c.requires.0, formed_as 30 c.args.rec.now c.requires.1 (sym e ∙ rest_is_30 _ (ap is_view e ∙ c.requires.2) (rw e (form_operation _ c.requires.1)) c.in_default.in_default-own.rest), c.requires.3)
-
-pub returns-in-1 : goal.returns-in-1
+pub returns-in-Initialize : goal.returns-in-Initialize
 unfolding outcome_of
-returns-in-1 c = rw (sym c.operation-o.ensures ∙ c.in-1.is) c.initialize.ensures
+returns-in-Initialize c = let h = c.requires.2 in rw (head_operation c.args.rec.now c.args.head Initialize c.requires.1 c.requires.2 c.in-Initialize.is) (rw (h.caller, h.signers, h.token, h.amount) at c.initialize.ensures)
 
-pub returns-in-2 : goal.returns-in-2
+pub returns-in-Deposit : goal.returns-in-Deposit
 unfolding outcome_of
-returns-in-2 c = rw (sym c.operation-o.ensures ∙ c.in-2.is) c.deposit.ensures
+returns-in-Deposit c = let h = c.requires.2 in rw (head_operation c.args.rec.now c.args.head Deposit c.requires.1 c.requires.2 c.in-Deposit.is) (rw (h.caller, h.signers, h.sequence, h.amount) at c.deposit.ensures)
 
-pub returns-in-3 : goal.returns-in-3
+pub returns-in-DepositWithFee : goal.returns-in-DepositWithFee
 unfolding outcome_of
-returns-in-3 c = rw (sym c.operation-o.ensures ∙ c.in-3.is) c.deposit_with_fee.ensures
+returns-in-DepositWithFee c = let h = c.requires.2 in rw (head_operation c.args.rec.now c.args.head DepositWithFee c.requires.1 c.requires.2 c.in-DepositWithFee.is) (rw (h.caller, h.signers, h.sequence, h.amount, h.fee) at c.deposit_with_fee.ensures)
 
-pub returns-in-4 : goal.returns-in-4
+pub returns-in-BatchDeposit : goal.returns-in-BatchDeposit
 unfolding outcome_of
-returns-in-4 c = rw (sym c.operation-o.ensures ∙ c.in-4.is) c.batch_deposit.ensures
+returns-in-BatchDeposit c = let h = c.requires.2 in rw (head_operation c.args.rec.now c.args.head BatchDeposit c.requires.1 c.requires.2 c.in-BatchDeposit.is) (rw (h.signers, h.sequence, h.item_count) at c.batch_deposit.ensures)
 
-pub returns-in-5 : goal.returns-in-5
+pub returns-in-Withdraw : goal.returns-in-Withdraw
 unfolding outcome_of
-returns-in-5 c = rw (sym c.operation-o.ensures ∙ c.in-5.is) c.withdraw.ensures
+returns-in-Withdraw c = let h = c.requires.2 in rw (head_operation c.args.rec.now c.args.head Withdraw c.requires.1 c.requires.2 c.in-Withdraw.is) (rw (h.caller, h.signers, h.sequence, h.other, h.amount) at c.withdraw.ensures)
 
-pub returns-in-6 : goal.returns-in-6
+pub returns-in-WithdrawBatch : goal.returns-in-WithdrawBatch
 unfolding outcome_of
-returns-in-6 c = rw (sym c.operation-o.ensures ∙ c.in-6.is) c.withdraw_batch.ensures
+returns-in-WithdrawBatch c = let h = c.requires.2 in rw (head_operation c.args.rec.now c.args.head WithdrawBatch c.requires.1 c.requires.2 c.in-WithdrawBatch.is) (rw (h.caller, h.signers, h.sequence, h.item_count) at c.withdraw_batch.ensures)
 
-pub returns-in-7 : goal.returns-in-7
+pub returns-in-DepositToken : goal.returns-in-DepositToken
 unfolding outcome_of
-returns-in-7 c = rw (sym c.operation-o.ensures ∙ c.in-7.is) c.deposit_token.ensures
+returns-in-DepositToken c = let h = c.requires.2 in rw (head_operation c.args.rec.now c.args.head DepositToken c.requires.1 c.requires.2 c.in-DepositToken.is) (rw (h.caller, h.signers, h.sequence, h.token, h.amount) at c.deposit_token.ensures)
 
-pub returns-in-8 : goal.returns-in-8
+pub returns-in-WithdrawToken : goal.returns-in-WithdrawToken
 unfolding outcome_of
-returns-in-8 c = rw (sym c.operation-o.ensures ∙ c.in-8.is) c.withdraw_token.ensures
+returns-in-WithdrawToken c = let h = c.requires.2 in rw (head_operation c.args.rec.now c.args.head WithdrawToken c.requires.1 c.requires.2 c.in-WithdrawToken.is) (rw (h.token, h.caller, h.signers, h.sequence, h.other, h.amount) at c.withdraw_token.ensures)
 
-pub returns-in-9 : goal.returns-in-9
+pub returns-in-DepositWithFailureReport : goal.returns-in-DepositWithFailureReport
 unfolding outcome_of
-returns-in-9 c = rw (sym c.operation-o.ensures ∙ c.in-9.is) c.deposit_with_failure_report.ensures
+returns-in-DepositWithFailureReport c = let h = c.requires.2 in rw (head_operation c.args.rec.now c.args.head DepositWithFailureReport c.requires.1 c.requires.2 c.in-DepositWithFailureReport.is) (rw (h.caller, h.signers, h.sequence, h.amount) at c.deposit_with_failure_report.ensures)
 
-pub returns-in-10 : goal.returns-in-10
+pub returns-in-SetOperatorWithdrawLimit : goal.returns-in-SetOperatorWithdrawLimit
 unfolding outcome_of
-returns-in-10 c = rw (sym c.operation-o.ensures ∙ c.in-10.is) c.set_operator_withdraw_limit.ensures
+returns-in-SetOperatorWithdrawLimit c = let h = c.requires.2 in rw (head_operation c.args.rec.now c.args.head SetOperatorWithdrawLimit c.requires.1 c.requires.2 c.in-SetOperatorWithdrawLimit.is) (rw (h.caller, h.signers, h.amount) at c.set_operator_withdraw_limit.ensures)
 
-pub returns-in-11 : goal.returns-in-11
+pub returns-in-SetLimit : goal.returns-in-SetLimit
 unfolding outcome_of
-returns-in-11 c = rw (sym c.operation-o.ensures ∙ c.in-11.is) c.set_limit.ensures
+returns-in-SetLimit c = let h = c.requires.2 in rw (head_operation c.args.rec.now c.args.head SetLimit c.requires.1 c.requires.2 c.in-SetLimit.is) (rw (h.caller, h.signers, h.amount) at c.set_limit.ensures)
 
-pub returns-in-12 : goal.returns-in-12
+pub returns-in-SetTokenMaxLimit : goal.returns-in-SetTokenMaxLimit
 unfolding outcome_of
-returns-in-12 c = rw (sym c.operation-o.ensures ∙ c.in-12.is) c.set_token_max_limit.ensures
+returns-in-SetTokenMaxLimit c = let h = c.requires.2 in rw (head_operation c.args.rec.now c.args.head SetTokenMaxLimit c.requires.1 c.requires.2 c.in-SetTokenMaxLimit.is) (rw (h.caller, h.token, h.signers, h.amount) at c.set_token_max_limit.ensures)
 
-pub returns-in-13 : goal.returns-in-13
+pub returns-in-SetOperator : goal.returns-in-SetOperator
 unfolding outcome_of
-returns-in-13 c = rw (sym c.operation-o.ensures ∙ c.in-13.is) c.set_operator.ensures
+returns-in-SetOperator c = let h = c.requires.2 in rw (head_operation c.args.rec.now c.args.head SetOperator c.requires.1 c.requires.2 c.in-SetOperator.is) (rw (h.caller, h.signers, h.other) at c.set_operator.ensures)
 
-pub returns-in-14 : goal.returns-in-14
+pub returns-in-RevokeOperator : goal.returns-in-RevokeOperator
 unfolding outcome_of
-returns-in-14 c = rw (sym c.operation-o.ensures ∙ c.in-14.is) c.revoke_operator.ensures
+returns-in-RevokeOperator c = let h = c.requires.2 in rw (head_operation c.args.rec.now c.args.head RevokeOperator c.requires.1 c.requires.2 c.in-RevokeOperator.is) (rw (h.caller, h.signers) at c.revoke_operator.ensures)
 
-pub returns-in-15 : goal.returns-in-15
+pub returns-in-ProposeOwner : goal.returns-in-ProposeOwner
 unfolding outcome_of
-returns-in-15 c = rw (sym c.operation-o.ensures ∙ c.in-15.is) c.propose_owner.ensures
+returns-in-ProposeOwner c = let h = c.requires.2 in rw (head_operation c.args.rec.now c.args.head ProposeOwner c.requires.1 c.requires.2 c.in-ProposeOwner.is) (rw (h.caller, h.signers, h.other, h.timestamp) at c.propose_owner.ensures)
 
-pub returns-in-16 : goal.returns-in-16
+pub returns-in-AcceptOwner : goal.returns-in-AcceptOwner
 unfolding outcome_of
-returns-in-16 c = rw (sym c.operation-o.ensures ∙ c.in-16.is) c.accept_owner.ensures
+returns-in-AcceptOwner c = let h = c.requires.2 in rw (head_operation c.args.rec.now c.args.head AcceptOwner c.requires.1 c.requires.2 c.in-AcceptOwner.is) (rw (h.caller, h.signers, h.timestamp) at c.accept_owner.ensures)
 
-pub returns-in-17 : goal.returns-in-17
+pub returns-in-SetOwnerProposalTtl : goal.returns-in-SetOwnerProposalTtl
 unfolding outcome_of
-returns-in-17 c = rw (sym c.operation-o.ensures ∙ c.in-17.is) c.set_owner_proposal_ttl.ensures
+returns-in-SetOwnerProposalTtl c = let h = c.requires.2 in rw (head_operation c.args.rec.now c.args.head SetOwnerProposalTtl c.requires.1 c.requires.2 c.in-SetOwnerProposalTtl.is) (rw (h.caller, h.signers, h.time_to_live) at c.set_owner_proposal_ttl.ensures)
 
-pub returns-in-18 : goal.returns-in-18
+pub returns-in-Pause : goal.returns-in-Pause
 unfolding outcome_of
-returns-in-18 c = rw (sym c.operation-o.ensures ∙ c.in-18.is) c.pause.ensures
+returns-in-Pause c = let h = c.requires.2 in rw (head_operation c.args.rec.now c.args.head Pause c.requires.1 c.requires.2 c.in-Pause.is) (rw (h.caller, h.signers, h.timestamp) at c.pause.ensures)
 
-pub returns-in-19 : goal.returns-in-19
+pub returns-in-Unpause : goal.returns-in-Unpause
 unfolding outcome_of
-returns-in-19 c = rw (sym c.operation-o.ensures ∙ c.in-19.is) c.unpause.ensures
+returns-in-Unpause c = let h = c.requires.2 in rw (head_operation c.args.rec.now c.args.head Unpause c.requires.1 c.requires.2 c.in-Unpause.is) (rw (h.caller, h.signers, h.timestamp) at c.unpause.ensures)
 
-pub returns-in-20 : goal.returns-in-20
-unfolding outcome_of
-returns-in-20 c = rw (sym c.operation-o.ensures ∙ c.in-20.is) c.approve_token.ensures
+pub returns-in-ApproveToken : goal.returns-in-ApproveToken
+unfolding outcome_of reads_flag member
+returns-in-ApproveToken c = let h = c.requires.2 in rw (head_operation c.args.rec.now c.args.head ApproveToken c.requires.1 c.requires.2 c.in-ApproveToken.is) (rw (h.caller, h.signers, h.token, head_flag c.args.rec.now c.args.head ApproveToken c.requires.1 c.requires.2 c.in-ApproveToken.is refl) at c.approve_token.ensures)
 
-pub returns-in-21 : goal.returns-in-21
+pub returns-in-InitiateEmergencyMigration : goal.returns-in-InitiateEmergencyMigration
 unfolding outcome_of
-returns-in-21 c = rw (sym c.operation-o.ensures ∙ c.in-21.is) c.initiate_emergency_migration.ensures
+returns-in-InitiateEmergencyMigration c = let h = c.requires.2 in rw (head_operation c.args.rec.now c.args.head InitiateEmergencyMigration c.requires.1 c.requires.2 c.in-InitiateEmergencyMigration.is) (rw (h.caller, h.signers, h.other, h.timestamp) at c.initiate_emergency_migration.ensures)
 
-pub returns-in-22 : goal.returns-in-22
+pub returns-in-ExecuteEmergencyMigration : goal.returns-in-ExecuteEmergencyMigration
 unfolding outcome_of
-returns-in-22 c = rw (sym c.operation-o.ensures ∙ c.in-22.is) c.execute_emergency_migration.ensures
+returns-in-ExecuteEmergencyMigration c = let h = c.requires.2 in rw (head_operation c.args.rec.now c.args.head ExecuteEmergencyMigration c.requires.1 c.requires.2 c.in-ExecuteEmergencyMigration.is) (rw (h.caller, h.signers, h.timestamp) at c.execute_emergency_migration.ensures)
 
-pub returns-in-23 : goal.returns-in-23
+pub returns-in-CancelEmergencyMigration : goal.returns-in-CancelEmergencyMigration
 unfolding outcome_of
-returns-in-23 c = rw (sym c.operation-o.ensures ∙ c.in-23.is) c.cancel_emergency_migration.ensures
+returns-in-CancelEmergencyMigration c = let h = c.requires.2 in rw (head_operation c.args.rec.now c.args.head CancelEmergencyMigration c.requires.1 c.requires.2 c.in-CancelEmergencyMigration.is) (rw (h.caller, h.signers) at c.cancel_emergency_migration.ensures)
 
-pub returns-in-29 : goal.returns-in-29
+pub returns-in-OutsideMove : goal.returns-in-OutsideMove
 unfolding outcome_of
-returns-in-29 c = rw (sym c.operation-o.ensures ∙ c.in-29.is) c.outside_move.ensures
+returns-in-OutsideMove c = let h = c.requires.2 in rw (head_operation c.args.rec.now c.args.head OutsideMove c.requires.1 c.requires.2 c.in-OutsideMove.is) (rw (h.caller, h.token, h.other, h.amount) at c.outside_move.ensures)
 
-pub returns-in_default : goal.returns-in_default
-unfolding outcome_of
-returns-in_default c = let e = c.operation-o.ensures in rw (sym e ∙ rest_is_30 _ (ap is_view e ∙ c.requires.2) (rw e (form_operation _ c.requires.1)) c.in_default.in_default-own.rest) c.freeze.ensures
+pub returns-in-Freeze : goal.returns-in-Freeze
+unfolding outcome_of reads_flag member
+returns-in-Freeze c = let h = c.requires.2 in rw (head_operation c.args.rec.now c.args.head Freeze c.requires.1 c.requires.2 c.in-Freeze.is) (rw (h.token, head_flag c.args.rec.now c.args.head Freeze c.requires.1 c.requires.2 c.in-Freeze.is refl) at c.freeze.ensures)

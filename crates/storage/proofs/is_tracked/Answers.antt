@@ -5,7 +5,6 @@ use Rattle.image.specs.Layout.{tracked_count}
 use native.Mathlib.Omega.{arith}
 use Prim.Native.Nat.{ℕ}
 use mathlib.Core.Path.{◌≡◌, sym, ap, ◌∙◌}
-use borrow.Author.Rules.{rules}
 use Rattle.storage.proofs.is_tracked.Goals as goal
 
 pub loop-i-init : goal.loop-i-init

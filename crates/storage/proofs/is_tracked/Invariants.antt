@@ -1,6 +1,5 @@
 -- `storage::is_tracked` meets its contract.
 use Rattle.image.specs.Good.{tracked}
-use Prim.Native.Nat.{◌≤◌, ◌-◌}
 use mathlib.Core.Bool.{false}
 use mathlib.Core.Path.{◌≡◌}
 use Rattle.storage.proofs.is_tracked.Given as goal
