@@ -1,8 +1,10 @@
 // Whether an image is good: one function for each part of the definition.
 #![tactic(auto)]
 
+mod address;
 mod flag;
 mod kind;
+mod places;
 
 ghost use Rattle.std.specs.Prelude.{◌≡◌, ◌+◌, ◌*◌, ◌≤◌, ◌<◌, ltb, leb, eqb, length};
 ghost use Rattle.fields.specs.Bytes.{le, put};
@@ -29,64 +31,23 @@ ghost use Rattle.image.specs.Good.{
   good_image,
 };
 
+pub use address::{Address, Token};
 pub use flag::Flag;
 pub use kind::Kind;
+pub use places::{
+    APPROVED_SET, CAPPED_SET, CAPS, CREDITS, DEFAULT_TOKEN, DESTINATION, EXECUTABLE_AT, FLAGS,
+    HOLDINGS, MIGRATION_PROPOSED_AT, OPERATOR, OPERATOR_LIMIT, OWNER, PENDING_OWNER, PROPOSED_AT,
+    PROPOSER, SNAPSHOTS, TIME_TO_LIVE, TOKENS, TOLLS, TRACKED_COUNT, TRACKED_KEYS, VAULT_LIMIT,
+    cap_at, credit_at, holding_at, snapshot_at, token_at, toll_at,
+};
 
 // The bytes of an image: docs/FORMATS.md, "The image".
 pub const LENGTH: usize = 36832;
 
 pub type Image = [u8; LENGTH];
 
-// The places of its fields.
-pub const FLAGS: usize = 0;
-
-pub const OWNER: usize = 2;
-
-pub const DEFAULT_TOKEN: usize = 3;
-
-pub const OPERATOR: usize = 4;
-
-pub const PENDING_OWNER: usize = 5;
-
-pub const PROPOSER: usize = 6;
-
-pub const DESTINATION: usize = 7;
-
-pub const VAULT_LIMIT: usize = 8;
-
-pub const OPERATOR_LIMIT: usize = 24;
-
-pub const PROPOSED_AT: usize = 40;
-
-pub const TIME_TO_LIVE: usize = 48;
-
-pub const MIGRATION_PROPOSED_AT: usize = 56;
-
-pub const EXECUTABLE_AT: usize = 64;
-
-pub const APPROVED_SET: usize = 72;
-
-pub const CAPPED_SET: usize = 80;
-
-pub const TRACKED_COUNT: usize = 88;
-
-// The places of the first of 64 caps, 16 snapshots, 1,088 tracked keys, 16 tokens and their tolls, 1,024 holdings and 1,024 credits.
-pub const CAPS: usize = 96;
-
-pub const SNAPSHOTS: usize = 1120;
-
-pub const TRACKED_KEYS: usize = 1504;
-
-pub const TOKENS: usize = 3680;
-
-pub const TOLLS: usize = 3688;
-
-pub const HOLDINGS: usize = 4064;
-
-pub const CREDITS: usize = 20448;
-
 // The address of the first token.
-pub const FIRST_TOKEN: usize = 48;
+const FIRST_TOKEN: usize = 48;
 
 fn bit_of(x: u64, k: u64) -> bool
     requires { k < 64 }
@@ -330,18 +291,16 @@ fn good_tokens(s: &Image) -> bool
     true
 }
 
-pub fn token_kind(img: &Image, t: usize) -> Kind
-    requires { (48 ≤ t) × (t < 64) }
-    ensures { result ≡ kind_of (kind img.now (slot t)) }
+pub fn token_kind(img: &Image, token: Token) -> Kind
+    ensures { result ≡ kind_of (kind img.now (slot token.address)) }
 {
-    Kind::from(fields::get64(img, TOKENS + 24 * (t - FIRST_TOKEN)))
+    Kind::from(fields::get64(img, token_at(token)))
 }
 
-pub fn set_token_kind(img: &mut Image, t: usize, kind: Kind)
-    requires { (48 ≤ t) × (t < 64) }
-    ensures { img.new ≡ put 8 img.old (token_at (slot t)) (kind_number «kind») }
+pub fn set_token_kind(img: &mut Image, token: Token, kind: Kind)
+    ensures { img.new ≡ put 8 img.old (token_at (slot token.address)) (kind_number «kind») }
 {
-    fields::put64(img, TOKENS + 24 * (t - FIRST_TOKEN), u64::from(kind));
+    fields::put64(img, token_at(token), u64::from(kind));
 }
 
 // Total: any slice.

@@ -12,7 +12,7 @@ ghost use Rattle.storage.specs.Facts.{Good, Keys};
 ghost use Rattle.storage.specs.Setters.{track_key, set_credit, set_cap, record_balance, snapshot_number};
 
 use amount::Amount;
-use image::{Flag, Image};
+use image::{Address, Flag, Image, Token};
 use refusal::Refusal;
 
 fn is_tracked(img: &Image, k: u16) -> bool
@@ -41,26 +41,19 @@ fn track_vault_key(img: &mut Image, k: u16)
     fields::put64(img, image::TRACKED_COUNT, n + 1);
 }
 
-pub fn get_token_account_balance(img: &Image, t: usize, account: usize) -> Amount
-    requires { (48 ≤ t) × (t < 64) × (account < 64) }
-    ensures { biased result ≡ credit img.now (slot t) account }
+pub fn get_token_account_balance(img: &Image, token: Token, account: Address) -> Amount
+    ensures { biased result ≡ credit img.now (slot token.address) account.number }
 {
-    amount::read_amount(
-        img,
-        image::CREDITS + 1024 * (t - image::FIRST_TOKEN) + 16 * account,
-    )
+    amount::read_amount(img, image::credit_at(token, account))
 }
 
-pub fn set_token_account_balance(img: &mut Image, t: usize, account: usize, balance: Amount)
-    requires { Keys img.old × (48 ≤ t) × (t < 64) × (account < 64) }
-    ensures { img.new ≡ set_credit img.old t account (biased balance) }
+pub fn set_token_account_balance(img: &mut Image, token: Token, account: Address, balance: Amount)
+    requires { Keys img.old }
+    ensures { img.new ≡ set_credit img.old token.address account.number (biased balance) }
 {
-    amount::write_amount(
-        img,
-        image::CREDITS + 1024 * (t - image::FIRST_TOKEN) + 16 * account,
-        balance,
-    );
-    track_vault_key(img, (64 * (t - image::FIRST_TOKEN) + account) as u16);
+    amount::write_amount(img, image::credit_at(token, account), balance);
+    let key = 64 * token.slot() + usize::from(account.number);
+    track_vault_key(img, key as u16);
 }
 
 // The set with bit k, below 64, set.
@@ -97,21 +90,20 @@ pub fn clear_flag(img: &mut Image, flag: Flag)
     fields::put16(img, image::FLAGS, without_bit(set, k) as u16);
 }
 
-pub fn set_token_max_limit(img: &mut Image, address: usize, limit: Amount)
-    requires { Keys img.old × (address < 64) }
-    ensures { img.new ≡ set_cap img.old address (biased limit) }
+pub fn set_token_max_limit(img: &mut Image, address: Address, limit: Amount)
+    requires { Keys img.old }
+    ensures { img.new ≡ set_cap img.old address.number (biased limit) }
 {
     let set = fields::get64(img, image::CAPPED_SET);
-    fields::put64(img, image::CAPPED_SET, with_bit(set, address as u64));
-    amount::write_amount(img, image::CAPS + 16 * address, limit);
-    track_vault_key(img, (1024 + address) as u16);
+    fields::put64(img, image::CAPPED_SET, with_bit(set, u64::from(address.number)));
+    amount::write_amount(img, image::cap_at(address), limit);
+    track_vault_key(img, 1024 + u16::from(address.number));
 }
 
-pub fn record_vault_balance(img: &mut Image, t: usize, sequence: u32, balance: Amount)
-    requires { (48 ≤ t) × (t < 64) }
-    ensures { img.new ≡ record_balance img.old t sequence (biased balance) }
+pub fn record_vault_balance(img: &mut Image, token: Token, sequence: u32, balance: Amount)
+    ensures { img.new ≡ record_balance img.old token.address sequence (biased balance) }
 {
-    let at = image::SNAPSHOTS + 24 * (t - image::FIRST_TOKEN);
+    let at = image::snapshot_at(token);
     fields::put32(img, at, 1);
     fields::put32(img, at + 4, sequence);
     amount::write_amount(img, at + 8, balance);
@@ -120,14 +112,13 @@ pub fn record_vault_balance(img: &mut Image, t: usize, sequence: u32, balance: A
 // 11 where the snapshot of this sequence shows another balance.
 pub fn check_vault_balance(
     img: &Image,
-    t: usize,
+    token: Token,
     sequence: u32,
     balance: Amount,
 ) -> Result<(), Refusal>
-    requires { (48 ≤ t) × (t < 64) }
-    ensures { code result ≡ snapshot_number img.now t sequence (biased balance) }
+    ensures { code result ≡ snapshot_number img.now token.address sequence (biased balance) }
 {
-    let at = image::SNAPSHOTS + 24 * (t - image::FIRST_TOKEN);
+    let at = image::snapshot_at(token);
     if fields::get32(img, at) != 1 {
         return Ok(());
     }

@@ -1,0 +1,46 @@
+// Addresses, and those among them that are tokens'.
+ghost use Rattle.std.specs.Prelude.{◌≡◌, ◌<◌, ◌≤◌, ℕ, MatchOption};
+ghost use Rattle.image.specs.Layout.{slot};
+
+use crate::FIRST_TOKEN;
+
+#[derive(Clone, Copy, Debug, PartialEq, Eq)]
+pub struct Address {
+    pub number: u8,
+    pub ghost in_range: { number < 64 },
+}
+
+#[derive(Clone, Copy, Debug, PartialEq, Eq)]
+pub struct Token {
+    pub address: u8,
+    pub ghost in_range: { (48 ≤ address) × (address < 64) },
+}
+
+impl Address {
+    pub fn new(number: u8) -> Option<Address>
+        ensures { MatchOption result (64 ≤ number) (λ a. a.number ≡ number) }
+    {
+        if number < 64 {
+            return Some(Address { number });
+        }
+        None
+    }
+}
+
+impl Token {
+    pub fn new(address: u8) -> Option<Token>
+        ensures { MatchOption result (48 ≤ address → 64 ≤ address) (λ t. t.address ≡ address) }
+    {
+        if 48 <= address && address < 64 {
+            return Some(Token { address });
+        }
+        None
+    }
+
+    // Its place among the tokens.
+    pub fn slot(self) -> usize
+        ensures { result ≡ slot self.address }
+    {
+        usize::from(self.address) - FIRST_TOKEN
+    }
+}
