@@ -261,6 +261,16 @@ struct CallBuffers {
     events: [u8; 1024],
 }
 
+impl CallBuffers {
+    fn new() -> CallBuffers {
+        CallBuffers {
+            head: [0u8; 8],
+            record: [0u8; 512],
+            events: [0u8; 1024],
+        }
+    }
+}
+
 fn next_call<I: Read, O: Write>(
     input: &mut I,
     output: &mut O,
@@ -297,11 +307,7 @@ fn all_calls<I: Read, O: Write>(
 ) -> TakenCalls
     ensures { TakesCalls (vault image.old journal.old) (vault image.new journal.new) count result.taken (number_or_zero result.fault) (is_ok result.written) }
 {
-    let mut buffers = CallBuffers {
-        head: [0u8; 8],
-        record: [0u8; 512],
-        events: [0u8; 1024],
-    };
+    let mut buffers = CallBuffers::new();
     for taken in 0..count {
         let AnsweredCall { fault, written, .. } = next_call(
             input,
