@@ -8,7 +8,7 @@ use native.Mathlib.Omega.{arith}
 use borrow.Author.Tests.{eq-eqb, ne_eqb}
 use Rattle.refusal.specs.declared.Refusal.{Refusal}
 use Rattle.outcome.specs.declared.Done.{Done}
-use Rattle.outcome.specs.Outcome.{Does, Refuses, refused, accepted}
+use Rattle.outcome.specs.Outcome.{Does, Refuses, refused, accepted, Announced, announced}
 use Rattle.outcome.specs.Checked.{checks_pass}
 use Rattle.events.specs.Kinds.{deposited_event, token_deposited_event, vault_deposit_failed_event}
 use Rattle.events.specs.Event.{put_event, event_buffer}
@@ -68,13 +68,11 @@ module _ (l : List ℕ) (caller signers seq gross fee : ℕ) {m v : List ℕ} (z
 
 -- ---- operation 9: k is what the transfer gave
 module _ (l : List ℕ) (t from seq n : ℕ) {k : ℕ} (e : k ≡ transfer_number l t from 1 n) where
-  pub reported : {d : Done} {y o w : List ℕ} → (k ≡ 0 → ⊥) → y ≡ transferred l t from 1 n → o ≡ event_buffer [] → w ≡ put_event o 0 (vault_deposit_failed_event from t n)
-      → (biased d.value ≡ bias) × (d.events ≡ 1) → Does (report_outcome l t from seq n) (Ok d) y w
+  pub reported : {d : Done} {y w : List ℕ} → (k ≡ 0 → ⊥) → y ≡ transferred l t from 1 n → Announced (vault_deposit_failed_event from t n) d w → Does (report_outcome l t from seq n) (Ok d) y w
   unfolding report_outcome
-  reported z q b v r =
+  reported z q a =
       let f : transfer_number l t from 1 n ≡ 0 → ⊥ = λ y. z (e ∙ y) in
-      rw (ne_eqb (transfer_number l t from 1 n) 0 f)
-      (accepted refl (r.0 ∙ sym (add-zero bias)) r.1 (q ∙ transfer_failed l t from 1 n f) (appended [] 0 b refl v refl (omega arith)))
+      rw (ne_eqb (transfer_number l t from 1 n) 0 f) (announced refl refl a (q ∙ transfer_failed l t from 1 n f))
 
   pub not_reported : {a : Result Done Refusal} {m w : List ℕ} → k ≡ 0 → Does (settled_report l t from seq n) a m w → Does (report_outcome l t from seq n) a m w
   unfolding report_outcome
