@@ -15,18 +15,30 @@ use Rattle.events.specs.Event.{put_event, event_buffer}
 use Rattle.events.specs.Buffer.{appended}
 use Rattle.fields.specs.Rules.{AllFail}
 use Rattle.token.specs.Token.{transfer_rules, transfer_number, transfer_of, transferred}
-use Rattle.token.specs.Laws.{transfer_failed, good_transfer}
+use Rattle.token.specs.Laws.{transfer_free, transfer_failed, good_transfer}
+use Rattle.deposits.proofs.Steps.{moved_is}
 use Rattle.storage.specs.Facts.{Keys, Good}
 use Rattle.storage.specs.Setters.{record_balance}
 use Rattle.image.specs.Layout.{slot, default_token, holding}
 use Rattle.amount.specs.Biased.{bias, biased}
 use Rattle.deposits.specs.Deposit.{receive_number, add_credit, deposit_image, deposit_checks, deposited_outcome, deposit_outcome, gross_number, net_of, deposit_with_fee_outcome}
 use Rattle.deposits.specs.Report.{settled_report, report_outcome, failure_report_outcome}
-use Rattle.deposits.specs.TokenDeposit.{deposit_token_image}
+use Rattle.deposits.specs.TokenDeposit.{receive_token_number, deposit_token_image}
+use Rattle.deposits.proofs.Laws.{receive_free, receive_token_free}
 
 -- the tracked keys after a transfer to the vault
 pub moved_keys : (l : List ℕ) (t from n : ℕ) {y : List ℕ} → Good l → from < 64 → bias ≤ n → AllFail (transfer_rules l t from 1 n) → y ≡ transfer_of l t from 1 n → Keys y
 moved_keys l t from n g fh p f q = rw q (good_transfer l t from 1 n g fh (omega arith) p f).keys
+
+pub transfer_keys : (l : List ℕ) (t from n : ℕ) {k : ℕ} {y : List ℕ} → Good l → from < 64 → bias ≤ n → k ≡ transfer_number l t from 1 n → k ≡ 0 → y ≡ transferred l t from 1 n → Keys y
+transfer_keys l t from n g fh p e z c = moved_keys l t from n g fh p (transfer_free l t from 1 n e z) (moved_is l t from n e z c)
+
+module _ (l : List ℕ) (t from n : ℕ) {k : ℕ} {y : List ℕ} (g : Good l) (fh : from < 64) (p : bias < n) (q : y ≡ transfer_of l t from 1 n) (z : k ≡ 0) where
+  pub received_keys : k ≡ receive_number l t from n → Keys y
+  received_keys e = moved_keys l t from n g fh (omega arith) (receive_free l t from n e z).0 q
+
+  pub token_keys : k ≡ receive_token_number l t from n → Keys y
+  token_keys e = moved_keys l t from n g fh (omega arith) (receive_free l t from n refl (receive_token_free l t from n e z)).0 q
 
 -- y is the image after the transfer, m and w image and events after credit, snapshot and event
 pub deposited : (k v : ℕ) (l : List ℕ) (t from n : ℕ) {y m m' w : List ℕ} {d : Done} (o : List ℕ) → k ≡ 0 → y ≡ transfer_of l t from 1 n → o ≡ event_buffer []

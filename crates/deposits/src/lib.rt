@@ -34,7 +34,7 @@ pub fn funding_check(img: &Image, t: u8, sequence: u32, n: Amount) -> Result<(),
     storage::check_vault_balance(img, i, sequence, held)
 }
 
-// 7: the sum passes 2 ^ 127 - 1.
+// The sum, or 7 where it passes 2 ^ 127 - 1.
 fn checked_sum(a: Amount, n: Amount) -> Result<Amount, Refusal>
     requires { bias ≤ biased n }
     ensures number { code result ≡ overflow_number (biased a) (biased n) }
@@ -102,6 +102,7 @@ fn settle(img: &mut Image, head: Head, t: usize, events: &mut Buffer)
 }
 
 // 8; 1, 3, 22; 4, 5; 10; 7, 6; 11.
+#[tactic(auto, using(storage::specs::Writes::default_range, checks::specs::Passed::shared_free, checks::specs::Passed::deposit_amount_free))]
 fn deposit_checks(img: &Image, head: Head) -> Result<(), Refusal>
     requires { Good img.now }
     ensures { code result ≡ deposit_checks img.now head.caller head.signers head.sequence (biased head.amount) }
@@ -113,6 +114,7 @@ fn deposit_checks(img: &Image, head: Head) -> Result<(), Refusal>
     funding_check(img, t, head.sequence, head.amount)
 }
 
+#[tactic(auto, using(crate::proofs::Laws::checks_passed, crate::proofs::Whole::received_keys))]
 pub fn deposit(img: &mut Image, head: Head, events: &mut Buffer) -> Answer
     requires { Good img.old × (head.caller < 64) × (events.old ≡ event_buffer []) }
     ensures { Does (deposit_outcome img.old head.caller head.signers head.sequence (biased head.amount)) result img.new events.new }
@@ -142,13 +144,21 @@ fn gross_check(gross: Amount, fee: Amount) -> Result<(), Refusal>
     checks::max_deposit_check(gross)
 }
 
+#[tactic(auto, using(crate::proofs::Laws::gross_free))]
 pub fn deposit_with_fee(img: &mut Image, head: Head, events: &mut Buffer) -> Answer
     requires { Good img.old × (head.caller < 64) × (events.old ≡ event_buffer []) }
     ensures { Does (deposit_with_fee_outcome img.old head.caller head.signers head.sequence (biased head.amount) (biased head.fee)) result img.new events.new }
 {
     gross_check(head.amount, head.fee)?;
     let net = head.amount - head.fee;
-    deposit(img, Head { amount: net, ..head }, events)?;
+    deposit(
+        img,
+        Head {
+            amount: net,
+            ..head
+        },
+        events,
+    )?;
     events::put_event(
         events,
         1,
@@ -174,6 +184,7 @@ fn credited_check(img: &Image, head: Head, t: usize, expected: Amount) -> Result
 }
 
 // A failed transfer is done with value 0; else 12; 7.
+#[tactic(auto, using(crate::proofs::Whole::transfer_keys, refusal::specs::Laws::code_is_ok))]
 fn report(img: &mut Image, head: Head, t: u8, events: &mut Buffer) -> Answer
     requires { Good img.old × (48 ≤ t) × (t < 64) × (head.caller < 64) × (bias ≤ biased head.amount) × (holding img.old (slot t) 1 + biased head.amount < bias + bias + bias) × (events.old ≡ event_buffer []) }
     ensures { Does (report_outcome img.old t head.caller head.sequence (biased head.amount)) result img.new events.new }
@@ -198,6 +209,7 @@ fn report(img: &mut Image, head: Head, t: u8, events: &mut Buffer) -> Answer
     })
 }
 
+#[tactic(auto, using(crate::proofs::Laws::checks_passed))]
 pub fn deposit_with_failure_report(img: &mut Image, head: Head, events: &mut Buffer) -> Answer
     requires { Good img.old × (head.caller < 64) × (events.old ≡ event_buffer []) }
     ensures { Does (failure_report_outcome img.old head.caller head.signers head.sequence (biased head.amount)) result img.new events.new }
@@ -215,12 +227,17 @@ fn token_cap_check(img: &Image, t: u8, held: Amount, n: Amount) -> Result<(), Re
     if !checks::contains(fields::get64(img, image::CAPPED_SET), t) {
         return Ok(());
     }
-    checks::limit_check(held, n, amount::read_amount(img, image::CAPS + 16 * (t as usize)))
+    checks::limit_check(
+        held,
+        n,
+        amount::read_amount(img, image::CAPS + 16 * usize::from(t)),
+    )
 }
 
 // 10; 23; 11; with a cap 7, 6.
+#[tactic(auto, using(crate::proofs::Laws::present))]
 fn token_funding_check(img: &Image, head: Head) -> Result<(), Refusal>
-    requires { (head.token < 64) × (bias ≤ biased head.amount) }
+    requires { bias ≤ biased head.amount }
     ensures { code result ≡ token_funding_number img.now head.token head.sequence (biased head.amount) }
 {
     checks::approved_check(img, head.token)?;
@@ -232,8 +249,8 @@ fn token_funding_check(img: &Image, head: Head) -> Result<(), Refusal>
 }
 
 // 8; 1, 3, 22; 4, 5; 10; 23; 11; 7, 6.
+#[tactic(auto, using(checks::specs::Passed::deposit_amount_free))]
 fn token_checks(img: &Image, head: Head) -> Result<(), Refusal>
-    requires { head.token < 64 }
     ensures { code result ≡ token_checks img.now head.caller head.signers head.sequence head.token (biased head.amount) }
 {
     checks::paused_check(img)?;
@@ -255,6 +272,7 @@ fn receive_token(img: &mut Image, head: Head, t: usize) -> Result<(), Refusal>
 }
 
 // What follows the transfer: snapshot, credit and event.
+#[tactic(auto, using(crate::proofs::Steps::snapshot_keys))]
 fn settle_token(img: &mut Image, head: Head, t: usize, events: &mut Buffer)
     requires { Keys img.old × (48 ≤ t) × (t < 64) × (head.caller < 64) × (bias ≤ biased head.amount) }
     ensures img_after { img.new ≡ add_credit (record_balance img.old t head.sequence (holding img.old (slot t) 1)) t head.caller (biased head.amount) }
@@ -266,8 +284,9 @@ fn settle_token(img: &mut Image, head: Head, t: usize, events: &mut Buffer)
     put_deposited(events, 0, head.caller, head.amount, held);
 }
 
+#[tactic(auto, using(crate::proofs::Laws::token_passed, crate::proofs::Whole::token_keys))]
 pub fn deposit_token(img: &mut Image, head: Head, events: &mut Buffer) -> Answer
-    requires { Good img.old × (head.caller < 64) × (head.token < 64) × (events.old ≡ event_buffer []) }
+    requires { Good img.old × (head.caller < 64) × (events.old ≡ event_buffer []) }
     ensures { Does (deposit_token_outcome img.old head.caller head.signers head.sequence head.token (biased head.amount)) result img.new events.new }
 {
     token_checks(img, head)?;

@@ -1,35 +1,20 @@
 -- `deposits::deposit_token` meets its contract.
-use Rattle.deposits.proofs.Whole.{moved_keys, deposited, token_image}
-use mathlib.Core.Path.{sym, ◌∙◌, refl}
-use Rattle.deposits.proofs.Laws.{token_passed, receive_free, receive_token_free}
+use Rattle.deposits.proofs.Whole.{deposited, token_image}
+use mathlib.Core.Path.{sym, ◌∙◌}
 use Rattle.deposits.specs.TokenDeposit.{deposit_token_outcome}
 use Rattle.outcome.specs.Checked.{checks_refuse, checks_pass}
 use Rattle.outcome.specs.Outcome.{refused}
 use Rattle.amount.specs.Biased.{bias, biased}
 use native.Mathlib.Nat.{add-zero}
-use native.Mathlib.Omega.{arith}
 use Rattle.deposits.proofs.deposit_token.Goals as goal
 
 pub returns-in_err-token_checks : goal.returns-in_err-token_checks
 unfolding deposit_token_outcome
 returns-in_err-token_checks c = checks_refuse _ _ _ c.in_err-token_checks.ensures c.from_residual.ensures
 
-pub receive_token-requires : goal.receive_token-requires
-receive_token-requires c =
-    let x = c.args in
-    let f = token_passed x.img.now _ _ _ _ (biased x.head.amount) c.in_ok-token_checks.ensures refl in
-    (c.requires.0, omega arith, omega arith, c.requires.1, omega arith)
-
 pub returns-in_err-receive_token : goal.returns-in_err-receive_token
 unfolding deposit_token_outcome
 returns-in_err-receive_token c = checks_pass _ _ c.in_ok-token_checks.ensures (refused _ c.from_residual-in_err-receive_token.ensures (rw c.from-t.ensures at c.in_err-receive_token.ensures.value))
-
-pub settle_token-requires : goal.settle_token-requires
-settle_token-requires c =
-    let x = c.args in
-    let f = token_passed x.img.now _ _ _ _ (biased x.head.amount) c.in_ok-token_checks.ensures refl in
-    let y = c.in_ok-receive_token.ensures in
-    (moved_keys x.img.now _ _ _ c.requires.0 c.requires.1 (omega arith) (receive_free x.img.now _ _ _ refl (receive_token_free x.img.now _ _ _ y.value refl)).0 y.img_after, omega arith, omega arith, c.requires.1, omega arith)
 
 pub returns : goal.returns
 unfolding deposit_token_outcome
@@ -39,4 +24,4 @@ returns c =
     let y = rw c.from-t.ensures at c.in_ok-receive_token.ensures in
     let s = rw c.from-t.ensures at c.settle_token.ensures in
     let d = c.new.ensures in
-    checks_pass _ _ c.in_ok-token_checks.ensures (deposited _ 0 x.img.now _ h.caller (biased h.amount) x.events.now (sym y.value) y.img_after c.requires.3 (token_image x.img.now _ h.caller h.sequence (biased h.amount) y.img_after s.img_after) s.events_after (d.0 ∙ sym (add-zero bias)) d.1)
+    checks_pass _ _ c.in_ok-token_checks.ensures (deposited _ 0 x.img.now _ h.caller (biased h.amount) x.events.now (sym y.value) y.img_after c.requires.2 (token_image x.img.now _ h.caller h.sequence (biased h.amount) y.img_after s.img_after) s.events_after (d.0 ∙ sym (add-zero bias)) d.1)

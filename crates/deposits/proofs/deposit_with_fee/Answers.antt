@@ -1,19 +1,13 @@
 -- `deposits::deposit_with_fee` meets its contract.
-use mathlib.Core.Path.{refl}
 use Rattle.deposits.proofs.Whole.{net-refused, net-deposited}
 use Rattle.deposits.specs.Deposit.{deposit_with_fee_outcome}
 use Rattle.outcome.specs.Checked.{checks_refuse}
-use Rattle.deposits.proofs.Laws.{gross_free}
 use Rattle.amount.specs.Biased.{biased}
-use native.Mathlib.Omega.{arith}
 use Rattle.deposits.proofs.deposit_with_fee.Goals as goal
 
 pub returns-in_err-gross_check : goal.returns-in_err-gross_check
 unfolding deposit_with_fee_outcome
 returns-in_err-gross_check c = checks_refuse _ _ _ c.in_err-gross_check.ensures c.from_residual.ensures
-
-pub sub-net-requires : goal.sub-net-requires
-sub-net-requires c = let f = gross_free _ _ c.in_ok-gross_check.ensures refl in omega arith
 
 pub returns-in_err-deposit : goal.returns-in_err-deposit
 returns-in_err-deposit c =

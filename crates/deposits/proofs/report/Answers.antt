@@ -1,12 +1,10 @@
 -- `deposits::report` meets its contract.
-use Rattle.deposits.proofs.Whole.{moved_keys, deposited, settled_image, reported, not_reported}
+use Rattle.deposits.proofs.Whole.{deposited, settled_image, reported, not_reported}
 use mathlib.Core.Path.{sym}
-use Rattle.token.specs.Laws.{transfer_free}
 use Rattle.deposits.proofs.Steps.{moved_is, credited}
 use Rattle.refusal.specs.Laws.{code_is_err, code_is_ok}
 use Rattle.outcome.specs.Outcome.{refused}
 use Rattle.amount.specs.Biased.{biased}
-use native.Mathlib.Omega.{arith}
 use mathlib.Core.Path.{refl}
 use Rattle.deposits.proofs.report.Goals as goal
 
@@ -26,16 +24,6 @@ returns-in_err-credited_check c =
     let z = code_is_ok c.transfer.result c.is_err.ensures.negation c.if-is_err.false in
     rw (← c.from-i.ensures)
     (not_reported x.img.now t h.caller h.sequence (biased h.amount) y.value z (refused _ c.from_residual.ensures (credited x.img.now t h.caller (biased h.amount) y.value z y.img_after c.balance.ensures c.add-expected.ensures c.in_err-credited_check.ensures)))
-
-pub settle-requires : goal.settle-requires
-settle-requires c =
-    let x = c.args in
-    let h = x.head in
-    let t = c.from-i.result in
-    let y = rw c.from.ensures at c.transfer.ensures in
-    let z = code_is_ok c.transfer.result c.is_err.ensures.negation c.if-is_err.false in
-    let m = moved_is x.img.now t h.caller (biased h.amount) y.value z y.img_after in
-    (moved_keys x.img.now t h.caller (biased h.amount) c.requires.0 c.requires.3 c.requires.4 (transfer_free x.img.now t h.caller 1 (biased h.amount) y.value z) m, omega arith, omega arith, c.requires.3, c.requires.4)
 
 pub returns : goal.returns
 returns c =
