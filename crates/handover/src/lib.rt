@@ -1,5 +1,5 @@
 // Operations 15 to 17: the owner is proposed and accepted, and how long a proposal lives (lib.rs).
-#![tactic(auto)]
+#![tactic(auto, unfolding(fields::specs::Rules::chain, fields::specs::Rules::or_else, fields::specs::Rules::verdict, crate::specs::Handover::propose_outcome, crate::specs::Handover::propose_number, crate::specs::Handover::new_owner_number, crate::specs::Handover::pending_number, crate::specs::Handover::expired_number, crate::specs::Handover::accept_number, crate::specs::Handover::clear_pending, crate::specs::Handover::accept_outcome, crate::specs::Handover::proposal_ttl_outcome, crate::specs::Handover::proposal_ttl_number, crate::specs::Handover::ttl_number), using(outcome::specs::Outcome::refused, outcome::specs::Outcome::announced))]
 
 ghost use Rattle.std.specs.Prelude.{◌≡◌, []};
 ghost use Rattle.refusal.specs.Numbers.{code};
@@ -15,7 +15,6 @@ use record::Head;
 use refusal::Refusal;
 
 // 1, 3, 22; 14.
-#[tactic(auto, unfolding(crate::specs::Handover::propose_outcome, crate::specs::Handover::propose_number, crate::specs::Handover::new_owner_number, fields::specs::Rules::chain, fields::specs::Rules::or_else, fields::specs::Rules::verdict), using(outcome::specs::Outcome::refused, outcome::specs::Outcome::announced))]
 pub fn propose_owner(img: &mut Image, head: Head, events: &mut Buffer) -> Answer
     requires { Good img.old × (events.old ≡ event_buffer []) }
     ensures { Does (propose_outcome img.old head.caller head.signers head.other head.timestamp) result img.new events.new }
@@ -36,7 +35,6 @@ pub fn propose_owner(img: &mut Image, head: Head, events: &mut Buffer) -> Answer
 }
 
 // 15, 16.
-#[tactic(auto, unfolding(crate::specs::Handover::pending_number, fields::specs::Rules::verdict))]
 fn pending_check(img: &Image, caller: u8) -> Result<(), Refusal>
     ensures { code result ≡ pending_number img.now caller }
 {
@@ -50,7 +48,6 @@ fn pending_check(img: &Image, caller: u8) -> Result<(), Refusal>
 }
 
 // 7, 17.
-#[tactic(auto, unfolding(crate::specs::Handover::expired_number, fields::specs::Rules::verdict))]
 fn expired_check(img: &Image, time: u64) -> Result<(), Refusal>
     ensures { code result ≡ expired_number img.now time }
 {
@@ -63,7 +60,6 @@ fn expired_check(img: &Image, time: u64) -> Result<(), Refusal>
 }
 
 // 15, 16; 22; 7, 17.
-#[tactic(auto, unfolding(crate::specs::Handover::accept_number, fields::specs::Rules::chain, fields::specs::Rules::or_else))]
 fn accept_check(img: &Image, head: Head) -> Result<(), Refusal>
     ensures { code result ≡ accept_number img.now head.caller head.signers head.timestamp }
 {
@@ -72,7 +68,6 @@ fn accept_check(img: &Image, head: Head) -> Result<(), Refusal>
     expired_check(img, head.timestamp)
 }
 
-#[tactic(auto, unfolding(crate::specs::Handover::clear_pending))]
 fn clear_pending(img: &mut Image)
     requires { Good img.old }
     ensures { img.new ≡ clear_pending img.old }
@@ -83,7 +78,6 @@ fn clear_pending(img: &mut Image)
     fields::put64(img, image::PROPOSED_AT, 0);
 }
 
-#[tactic(auto, unfolding(crate::specs::Handover::accept_outcome), using(outcome::specs::Outcome::refused, outcome::specs::Outcome::announced))]
 pub fn accept_owner(img: &mut Image, head: Head, events: &mut Buffer) -> Answer
     requires { Good img.old × (events.old ≡ event_buffer []) }
     ensures { Does (accept_outcome img.old head.caller head.signers head.timestamp) result img.new events.new }
@@ -102,7 +96,6 @@ pub fn accept_owner(img: &mut Image, head: Head, events: &mut Buffer) -> Answer
 }
 
 // 1, 3, 22; 4.
-#[tactic(auto, unfolding(crate::specs::Handover::proposal_ttl_outcome, crate::specs::Handover::proposal_ttl_number, crate::specs::Handover::ttl_number, fields::specs::Rules::chain, fields::specs::Rules::or_else, fields::specs::Rules::verdict), using(outcome::specs::Outcome::refused, outcome::specs::Outcome::announced))]
 pub fn set_owner_proposal_ttl(img: &mut Image, head: Head, events: &mut Buffer) -> Answer
     requires { Good img.old × (events.old ≡ event_buffer []) }
     ensures { Does (proposal_ttl_outcome img.old head.caller head.signers head.time_to_live) result img.new events.new }
