@@ -1,42 +1,36 @@
 -- `token::transfer` meets its contract.
-use Rattle.token.proofs.Steps.{debit_is, transfer_is, gain_fits}
-use Rattle.token.specs.Laws.{transfer_free, transfer_failed, transfer_done}
-use Rattle.refusal.specs.Laws.{some_number, code_passed}
-use Rattle.amount.specs.Biased.{biased}
-use native.Mathlib.Omega.{arith}
 use mathlib.Core.Path.{refl, sym, ◌∙◌}
-use borrow.Author.Rules.{rules}
+use native.Mathlib.Omega.{arith}
+use Rattle.amount.specs.Biased.{biased}
+use Rattle.refusal.specs.Laws.{some_number}
+use Rattle.token.specs.Laws.{transfer_free, transfer_failed, transfer_done}
+use Rattle.token.proofs.Steps.{debit_is, transfer_is, gain_fits}
 use Rattle.token.proofs.transfer.Goals as goal
 
-pub returns-in_err-transfer_check : goal.returns-in_err-transfer_check
-returns-in_err-transfer_check c =
+pub returns-in_err-token-clause-img_after : goal.returns-in_err-token-clause-img_after
+returns-in_err-token-clause-img_after c =
     let x = c.args in
-    let e = c.in_err-transfer_check.ensures in
-    record {
-      value = code_passed _ _ c.from_residual.ensures ∙ e;
-      img_after = sym (transfer_failed x.img.now x.t x.from x.to (biased x.n) (λ z. some_number _ (e ∙ z)));
-    }
-
-pub after_toll-gain-requires : goal.after_toll-gain-requires
-after_toll-gain-requires c = let f = transfer_free _ _ _ _ _ c.in_ok-transfer_check.ensures refl in (search rules, omega arith, omega arith)
-
-pub balance-requires : goal.balance-requires
-balance-requires c = let f = transfer_free _ _ _ _ _ c.in_ok-transfer_check.ensures refl in (omega arith, omega arith, search rules)
+    sym (transfer_failed x.img.now x.t x.from.number x.to.number (biased x.n) (λ z. some_number _ (c.in_err-token.ensures.number ∙ z)))
 
 pub sub-left-requires : goal.sub-left-requires
-sub-left-requires c = let f = transfer_free _ _ _ _ _ c.in_ok-transfer_check.ensures refl in (search rules, omega arith)
-
-pub set_balance-requires : goal.set_balance-requires
-set_balance-requires c = let f = transfer_free _ _ _ _ _ c.in_ok-transfer_check.ensures refl in (omega arith, omega arith, search rules)
-
-pub balance-have-requires : goal.balance-have-requires
-balance-have-requires c = let f = transfer_free _ _ _ _ _ c.in_ok-transfer_check.ensures refl in (omega arith, omega arith, search rules)
+sub-left-requires c =
+    let e = c.in_ok-token.ensures.token in
+    let f = transfer_free _ _ _ _ _ c.in_ok-token.ensures.number refl in
+    let b = rw e at c.balance.ensures in
+    (omega arith, omega (arith, b, f))
 
 pub add-requires : goal.add-requires
-add-requires c = let x = c.args in let f = transfer_free _ _ _ _ _ c.in_ok-transfer_check.ensures refl in let e = debit_is x.img.now x.t x.from x.to (biased x.n) c.set_balance.ensures c.sub-left.ensures c.balance.ensures in gain_fits x.img.now x.t x.from x.to (biased x.n) e c.balance-have.ensures c.after_toll-gain.ensures f.1.1.1.1.0
+add-requires c =
+    let x = c.args in
+    let e = c.in_ok-token.ensures.token in
+    let f = transfer_free _ _ _ _ _ c.in_ok-token.ensures.number refl in
+    let d = debit_is x.img.now x.t x.from.number x.to.number (biased x.n) (rw e at c.set_balance.ensures) c.sub-left.ensures (rw e at c.balance.ensures) in
+    gain_fits x.img.now x.t x.from.number x.to.number (biased x.n) d (rw e at c.balance-have.ensures) (rw e at c.after_toll-gain.ensures) f.1.1.1.1.0
 
-pub set_balance-requires-2 : goal.set_balance-requires-2
-set_balance-requires-2 c = let f = transfer_free _ _ _ _ _ c.in_ok-transfer_check.ensures refl in (omega (arith, f), omega (arith, f), omega (arith, c))
-
-pub returns : goal.returns
-returns c = let x = c.args in let z = sym c.in_ok-transfer_check.ensures in let e = debit_is x.img.now x.t x.from x.to (biased x.n) c.set_balance.ensures c.sub-left.ensures c.balance.ensures in record { value = sym z; img_after = transfer_is x.img.now x.t x.from x.to (biased x.n) e c.balance-have.ensures c.after_toll-gain.ensures c.set_balance-2.ensures c.add.ensures ∙ sym (transfer_done x.img.now x.t x.from x.to (biased x.n) z) }
+pub returns-clause-img_after : goal.returns-clause-img_after
+returns-clause-img_after c =
+    let x = c.args in
+    let e = c.in_ok-token.ensures.token in
+    let d = debit_is x.img.now x.t x.from.number x.to.number (biased x.n) (rw e at c.set_balance.ensures) c.sub-left.ensures (rw e at c.balance.ensures) in
+    transfer_is x.img.now x.t x.from.number x.to.number (biased x.n) d (rw e at c.balance-have.ensures) (rw e at c.after_toll-gain.ensures) (rw e at c.set_balance-2.ensures) c.add.ensures
+    ∙ sym (transfer_done x.img.now x.t x.from.number x.to.number (biased x.n) (sym c.in_ok-token.ensures.number))
