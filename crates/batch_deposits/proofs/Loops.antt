@@ -6,7 +6,7 @@ use native.Mathlib.Omega.{arith}
 use lib.ListN.{length, length-append}
 use native.Mathlib.Nat.{sub-zero}
 use Rattle.events.specs.Event.{EventFields, put_event, event_buffer}
-use Rattle.events.specs.Buffer.{length-event_buffer, appended}
+use Rattle.events.specs.Buffer.{appended}
 use Rattle.record.specs.Record.{item_address, item_amount}
 use Rattle.token.specs.Token.{transfer_number}
 use Rattle.token.specs.Laws.{transfer_free, good_transfer}
@@ -74,9 +74,6 @@ module _ {i : ℕ} {e : List ℕ} {all : List EventFields} where
 
   pub written_all : {rest : List EventFields} → Written i e all rest → rest ≡ [] → e ≡ event_buffer all
   written_all w z = w.bytes ∙ ap event_buffer (sym (append-nil w.done) ∙ ap (λ (x : List EventFields). w.done ++ x) (sym z) ∙ w.joined)
-
-  pub written_long : {rest : List EventFields} → Written i e all rest → i ≤ 16 → length e ≡ 896
-  written_long w h = let n = w.long in rw w.bytes (length-event_buffer w.done (omega arith))
 
 -- l₀ is the image at first, l and e image and events after i transfers of count
 pub record Underway (r : List ℕ) (t count : ℕ) (l₀ : List ℕ) (i : ℕ) (l e : List ℕ) : Type 0 where

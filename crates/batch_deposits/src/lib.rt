@@ -20,6 +20,7 @@ use record::{Head, Record};
 use refusal::Refusal;
 
 // 4: no item.
+#[tactic(auto, unfolding(crate::specs::Batch::count_number), using(fields::specs::Rules::only))]
 fn count_check(count: u8) -> Result<(), Refusal>
     ensures { code result ≡ count_number count }
 {

@@ -10,7 +10,7 @@ use Rattle.storage.specs.Writes.{default_range}
 use Rattle.image.specs.Layout.{slot, default_token, vault_limit, holding, initialised}
 use Rattle.amount.specs.Biased.{bias}
 use Rattle.fields.specs.Rules.{stop_at, AllFail, free, link_at_lem, unlinked}
-use Rattle.deposits.specs.Deposit.{funding_number, overflow_rules, overflow_number, expected_rules, expected_number, deposit_holding, expected_holding, receive_number, deposit_checks, fee_rules, fee_number, gross_number}
+use Rattle.deposits.specs.Deposit.{funding_number, expected_rules, expected_number, deposit_holding, expected_holding, receive_number, deposit_checks, fee_rules, fee_number, gross_number}
 use Rattle.deposits.specs.Report.{credited_number}
 use Rattle.deposits.specs.TokenDeposit.{token_funding_number, token_checks, receive_token_number}
 use Rattle.deposits.specs.Laws.{Funded}
@@ -20,10 +20,6 @@ unfolding funding_number
 funding_free l t seq n e z =
     let u = unlinked _ (sym e ∙ z) in
     (limit_free (holding l (slot t) 1) n (vault_limit l) refl u.1.0).0
-
-pub overflow_free : (a n : ℕ) {k : ℕ} → k ≡ overflow_number a n → k ≡ 0 → AllFail (overflow_rules a n)
-unfolding overflow_number
-overflow_free a n e z = free (overflow_rules a n) refl e z
 
 pub expected_free : (h d : ℕ) {k : ℕ} → k ≡ expected_number h d → k ≡ 0 → h ≡ d
 unfolding expected_number

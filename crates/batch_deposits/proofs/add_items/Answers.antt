@@ -5,7 +5,6 @@ use Rattle.amount.specs.Order.{biased_zero}
 use Rattle.amount.specs.Biased.{biased}
 use native.Mathlib.Omega.{arith}
 use mathlib.Core.Path.{refl, ◌∙◌}
-use borrow.Author.Rules.{rules}
 use Rattle.batch_deposits.proofs.add_items.Goals as goal
 
 pub loop-i-init : goal.loop-i-init

@@ -1,14 +1,11 @@
 -- `batch_deposits::batch_deposit` meets its contract.
 use Rattle.refusal.specs.Laws.{refused_at}
-use mathlib.Core.Path.{refl, sym}
+use mathlib.Core.Path.{sym}
 use Rattle.batch_deposits.proofs.Whole.{funded, batch_passed}
 use Rattle.batch_deposits.specs.Batch.{batch_checks, batch_outcome}
-use Rattle.batch_deposits.specs.Laws.{open_free, items_free}
-use Rattle.deposits.proofs.Laws.{funding_free}
+use Rattle.batch_deposits.specs.Laws.{items_free}
 use Rattle.outcome.specs.Checked.{checks_refuse}
-use Rattle.storage.specs.Writes.{default_range}
 use native.Mathlib.Omega.{arith}
-use borrow.Author.Rules.{rules}
 use Rattle.batch_deposits.proofs.batch_deposit.Goals as goal
 
 pub returns-in_err-open_check : goal.returns-in_err-open_check
@@ -18,8 +15,6 @@ returns-in_err-open_check c = checks_refuse _ _ _ (refused_at _ 0 _ tt c.in_err-
 pub returns-in_err-sum : goal.returns-in_err-sum
 unfolding batch_outcome batch_checks
 returns-in_err-sum c = checks_refuse _ _ _ (refused_at _ 1 _ (omega arith) (rw c.from.ensures at c.in_err-sum.ensures.number)) c.from_residual-in_err-sum.ensures
-
-
 
 pub returns-in_err-funding_check : goal.returns-in_err-funding_check
 unfolding batch_outcome

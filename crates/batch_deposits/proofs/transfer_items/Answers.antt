@@ -1,15 +1,9 @@
 -- `batch_deposits::transfer_items` meets its contract.
 use mathlib.Core.Path.{refl, ◌∙◌}
-use Rattle.batch_deposits.proofs.Loops.{written_long, stops, goes_on, ends}
+use Rattle.batch_deposits.proofs.Loops.{stops, goes_on, ends}
 use Rattle.refusal.specs.Laws.{code_passed, some_number}
 use native.Mathlib.Omega.{arith}
-use borrow.Author.Rules.{rules}
 use Rattle.batch_deposits.proofs.transfer_items.Goals as goal
-
-pub transfer_item-requires-clause-good : goal.transfer_item-requires-clause-good
-transfer_item-requires-clause-good c =
-    let l = c.loop-i in
-    (l.invariant.good, omega arith, c.requires.good.3, c.requires.good.4)
 
 pub returns-in_err-transfer_item-clause-value : goal.returns-in_err-transfer_item-clause-value
 returns-in_err-transfer_item-clause-value c =
