@@ -282,7 +282,7 @@ pub fn put_event(events: &mut Buffer, i: usize, event: Event)
 pub fn clear_events(events: &mut Buffer)
     ensures { events.new ≡ event_buffer [] }
 {
-    fields::clear(events);
+    events.fill(0);
 }
 
 // 33 where the buffer is not 896 bytes long.

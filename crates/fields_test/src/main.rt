@@ -33,17 +33,17 @@ fn widths(rt: &impl Print, s: &mut [u8]) -> io::Result<()>
     fields::put32(s, 9, 4294967293);
     fields::put64(s, 1, 18446744073709551612);
     halves(rt, s)?;
-    line(rt, fields::get8(s, 15) as u64)?;
-    line(rt, fields::get16(s, 13) as u64)?;
-    line(rt, fields::get32(s, 9) as u64)?;
+    line(rt, u64::from(fields::get8(s, 15)))?;
+    line(rt, u64::from(fields::get16(s, 13)))?;
+    line(rt, u64::from(fields::get32(s, 9)))?;
     line(rt, fields::get64(s, 1))?;
-    line(rt, fields::get16(s, 0) as u64)
+    line(rt, u64::from(fields::get16(s, 0)))
 }
 
 fn slices(rt: &impl Print, s: &mut [u8], t: &mut [u8]) -> io::Result<()>
     requires { (length s.old ≡ 16) × (length t.old ≡ 16) }
 {
-    fields::copy_bytes(s, t);
+    t.copy_from_slice(s);
     truth(rt, fields::same_bytes(s, t))?;
     fields::put8(t, 0, 1);
     truth(rt, fields::same_bytes(s, t))
@@ -52,7 +52,7 @@ fn slices(rt: &impl Print, s: &mut [u8], t: &mut [u8]) -> io::Result<()>
 fn zeros(rt: &impl Print, t: &mut [u8]) -> io::Result<()>
     requires { length t.old ≡ 16 }
 {
-    fields::clear(t);
+    t.fill(0);
     truth(rt, fields::are_zero(t, 0, 16))?;
     fields::put8(t, 7, 128);
     truth(rt, fields::are_zero(t, 0, 7))?;

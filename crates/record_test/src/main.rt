@@ -29,7 +29,7 @@ fn code(answer: Result<Head, Refusal>) -> u8 {
 fn form_of(rec: &mut Record, operation: u8, at: usize, value: u8) -> u8
     requires { at < 448 }
 {
-    fields::clear(rec);
+    rec.fill(0);
     fields::put8(rec, 0, operation);
     fields::put8(rec, at, value);
     code(record::parse(rec))
@@ -59,7 +59,7 @@ fn try_item(
 ) -> io::Result<()>
     requires { i < 16 }
 {
-    fields::clear(rec);
+    rec.fill(0);
     fields::put8(rec, 0, operation);
     fields::put8(rec, 5, count);
     fields::put8(rec, 64 + 24 * i, address);

@@ -96,7 +96,7 @@ fn answer_call(
 ) -> StepLine
     ensures { PrintsStep (request_step (vault image.old journal.old) (asked request.entry.kind request.entry.«record».now (replicate (length events.old) request.entry.fill))) (text_of result ++ (10 ∷ [])) image.new journal.new }
 {
-    fields::fill(events, request.fill);
+    events.fill(request.fill);
     match request.kind {
         Kind::Operation => vault_vectors::answer_operation(image, journal, request.record, events),
         Kind::Transaction(kind) => vault_vectors::answer_transaction(image, journal, kind),

@@ -15,6 +15,7 @@ const MULTIPLIER: u64 = 6364136223846793005;
 
 const INCREMENT: u64 = 1442695040888963407;
 
+#[tactic(auto, unfolding(crate::specs::Generator::next))]
 fn next(last: u64) -> u64
     ensures { result ≡ next last }
 {
@@ -22,11 +23,12 @@ fn next(last: u64) -> u64
 }
 
 // The upper 32 bits, below a bound.
+#[tactic(auto, unfolding(crate::specs::Generator::draw))]
 fn draw_below(number: u64, bound: u32) -> u32
     requires { 0 < bound }
     ensures { (result ≡ draw number % bound) × (result < bound) }
 {
-    (number / 4294967296) as u32 % bound
+    (number >> 32) as u32 % bound
 }
 
 // What six draws make, and the number that they reach.
@@ -41,6 +43,7 @@ struct Draws {
     reached: u64,
 }
 
+#[tactic(auto, unfolding(crate::specs::Trial::draws_from, crate::specs::Generator::steps))]
 fn six_draws(last: u64) -> Draws
     ensures { (draws_of result ≡ draws_from last) × (result.reached ≡ steps 6 last) }
 {
@@ -56,12 +59,13 @@ fn six_draws(last: u64) -> Draws
         token: draw_below(c, 64) as u8,
         other: draw_below(d, 64) as u8,
         flag: draw_below(e, 2) as u8,
-        amount: draw_below(f, 1001) as u64,
+        amount: u64::from(draw_below(f, 1001)),
         reached: f,
     }
 }
 
 // Below 2^64: the high half of the amount is zero.
+#[tactic(auto, using(crate::proofs::Fields::small_put))]
 fn put_amount(rec: &mut [u8], at: usize, x: u64)
     requires { at + 16 ≤ length rec.old }
     ensures { rec.new ≡ put 16 rec.old at x }
@@ -87,7 +91,7 @@ fn put_record(rec: &mut [u8], d: Draws, number: u32)
     ensures { rec.new ≡ laid rec.old (trial_fields (draws_of d) number) }
 {
     put_head(rec, d);
-    fields::put64(rec, 8, number as u64);
+    fields::put64(rec, 8, u64::from(number));
     fields::put32(rec, 16, number);
     fields::put64(rec, 24, u64::MAX);
     put_amount(rec, 32, d.amount);
@@ -96,12 +100,13 @@ fn put_record(rec: &mut [u8], d: Draws, number: u32)
 }
 
 // The number that its draws reach is returned.
+#[tactic(auto, unfolding(crate::specs::Trial::trial_record, crate::specs::Trial::record_of))]
 fn make_record(rec: &mut [u8], last: u64, number: u32) -> u64
     requires { length rec.old ≡ 448 }
     ensures { (rec.new ≡ trial_record last number) × (result ≡ steps 6 last) }
 {
     let d = six_draws(last);
-    fields::clear(rec);
+    rec.fill(0);
     put_record(rec, d, number);
     d.reached
 }
@@ -119,6 +124,7 @@ fn make_records(start: u64, first: u64, records: &mut [u8]) -> u64
 }
 
 // A first number above 2^32 comes before the sum, which could pass 2^64.
+#[tactic(auto, unfolding(crate::specs::Trial::trial_number, fields::specs::Rules::verdict))]
 fn trial_check(first: u64, bytes: usize) -> Result<(), Refusal>
     ensures { code result ≡ trial_number first bytes }
 {
