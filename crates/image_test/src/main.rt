@@ -1,9 +1,10 @@
 // The image test: 1 where an image is good. An empty and a working image, wrong lengths, then one byte of the working image changed at a time.
 #![tactic(auto)]
 
-ghost use Rattle.std.specs.Prelude.{◌≡◌, ◌<◌, length};
+ghost use Rattle.std.specs.Prelude.{◌<◌};
 
 use amount::Amount;
+use image::Image;
 use std::io;
 
 fn show(rt: &impl Print, good: bool) -> io::Result<()> {
@@ -15,9 +16,7 @@ fn end(rt: &impl Print) -> io::Result<()> {
 }
 
 // Owner 2, token 48, operator 3, limits, time to live, approved set, a cap, tracked keys.
-fn fill_head(image: &mut [u8])
-    requires { length image.old ≡ 36832 }
-{
+fn fill_head(image: &mut Image) {
     fields::put16(image, 0, 13);
     fields::put8(image, 2, 2);
     fields::put8(image, 3, 48);
@@ -27,18 +26,14 @@ fn fill_head(image: &mut [u8])
     fill_sets(image);
 }
 
-fn fill_sets(image: &mut [u8])
-    requires { length image.old ≡ 36832 }
-{
+fn fill_sets(image: &mut Image) {
     fields::put64(image, 48, 604800);
     fields::put64(image, 72, 281474976710656);
     fields::put64(image, 80, 16);
     fields::put64(image, 88, 2);
 }
 
-fn fill_middle(image: &mut [u8])
-    requires { length image.old ≡ 36832 }
-{
+fn fill_middle(image: &mut Image) {
     amount::write_amount(image, 160, Amount::from(7));
     fields::put32(image, 1120, 1);
     fields::put32(image, 1124, 77);
@@ -47,9 +42,7 @@ fn fill_middle(image: &mut [u8])
     fields::put16(image, 1506, 3);
 }
 
-fn fill_tokens(image: &mut [u8])
-    requires { length image.old ≡ 36832 }
-{
+fn fill_tokens(image: &mut Image) {
     fields::put64(image, 3680, 1);
     amount::write_amount(image, 3688, Amount::from(3));
     amount::write_amount(image, 4080, Amount::from(100));
@@ -57,8 +50,8 @@ fn fill_tokens(image: &mut [u8])
 }
 
 // The image with one byte changed; the byte is put back.
-fn try_byte(rt: &impl Print, image: &mut [u8], at: usize, byte: u8) -> io::Result<()>
-    requires { (length image.old ≡ 36832) × (at < 36832) }
+fn try_byte(rt: &impl Print, image: &mut Image, at: usize, byte: u8) -> io::Result<()>
+    requires { at < 36832 }
 {
     let old = fields::get8(image, at);
     fields::put8(image, at, byte);
@@ -68,9 +61,7 @@ fn try_byte(rt: &impl Print, image: &mut [u8], at: usize, byte: u8) -> io::Resul
 }
 
 // Flags and addresses; limits, pending owner and migration; any approved set is good.
-fn head(rt: &impl Print, image: &mut [u8]) -> io::Result<()>
-    requires { length image.old ≡ 36832 }
-{
+fn head(rt: &impl Print, image: &mut Image) -> io::Result<()> {
     try_byte(rt, image, 0, 77)?;
     try_byte(rt, image, 2, 64)?;
     try_byte(rt, image, 3, 49)?;
@@ -78,9 +69,7 @@ fn head(rt: &impl Print, image: &mut [u8]) -> io::Result<()>
     try_byte(rt, image, 7, 1)
 }
 
-fn limits(rt: &impl Print, image: &mut [u8]) -> io::Result<()>
-    requires { length image.old ≡ 36832 }
-{
+fn limits(rt: &impl Print, image: &mut Image) -> io::Result<()> {
     try_byte(rt, image, 23, 128)?;
     try_byte(rt, image, 24, 0)?;
     try_byte(rt, image, 40, 1)?;
@@ -90,18 +79,14 @@ fn limits(rt: &impl Print, image: &mut [u8]) -> io::Result<()>
 }
 
 // Capped set, reserved bytes, a cap; snapshots (a negative one is good), keys.
-fn caps(rt: &impl Print, image: &mut [u8]) -> io::Result<()>
-    requires { length image.old ≡ 36832 }
-{
+fn caps(rt: &impl Print, image: &mut Image) -> io::Result<()> {
     try_byte(rt, image, 80, 32)?;
     try_byte(rt, image, 90, 1)?;
     try_byte(rt, image, 160, 0)?;
     try_byte(rt, image, 1120, 2)
 }
 
-fn snapshots(rt: &impl Print, image: &mut [u8]) -> io::Result<()>
-    requires { length image.old ≡ 36832 }
-{
+fn snapshots(rt: &impl Print, image: &mut Image) -> io::Result<()> {
     try_byte(rt, image, 1143, 128)?;
     try_byte(rt, image, 1144, 1)?;
     try_byte(rt, image, 1505, 5)?;
@@ -110,18 +95,14 @@ fn snapshots(rt: &impl Print, image: &mut [u8]) -> io::Result<()>
 }
 
 // Kinds and tolls; holdings and credits of a present token and of an absent one.
-fn tokens(rt: &impl Print, image: &mut [u8]) -> io::Result<()>
-    requires { length image.old ≡ 36832 }
-{
+fn tokens(rt: &impl Print, image: &mut Image) -> io::Result<()> {
     try_byte(rt, image, 3680, 3)?;
     try_byte(rt, image, 3681, 1)?;
     try_byte(rt, image, 3703, 128)?;
     try_byte(rt, image, 3712, 1)
 }
 
-fn holdings(rt: &impl Print, image: &mut [u8]) -> io::Result<()>
-    requires { length image.old ≡ 36832 }
-{
+fn holdings(rt: &impl Print, image: &mut Image) -> io::Result<()> {
     try_byte(rt, image, 4095, 128)?;
     try_byte(rt, image, 20511, 128)?;
     try_byte(rt, image, 5088, 1)?;
@@ -132,9 +113,7 @@ fn holdings(rt: &impl Print, image: &mut [u8]) -> io::Result<()>
 }
 
 // An image of zeros, and a part of it.
-fn empty(rt: &impl Print, image: &mut [u8]) -> io::Result<()>
-    requires { length image.old ≡ 36832 }
-{
+fn empty(rt: &impl Print, image: &mut Image) -> io::Result<()> {
     show(rt, image::good_image(image))?;
     show(rt, image::good_image(&image[0..36831]))?;
     show(rt, image::good_image(&image[0..0]))?;
@@ -142,9 +121,7 @@ fn empty(rt: &impl Print, image: &mut [u8]) -> io::Result<()>
     end(rt)
 }
 
-fn fill(rt: &impl Print, image: &mut [u8]) -> io::Result<()>
-    requires { length image.old ≡ 36832 }
-{
+fn fill(rt: &impl Print, image: &mut Image) -> io::Result<()> {
     fill_head(image);
     fill_middle(image);
     fill_tokens(image);
@@ -152,9 +129,7 @@ fn fill(rt: &impl Print, image: &mut [u8]) -> io::Result<()>
     end(rt)
 }
 
-fn damage(rt: &impl Print, image: &mut [u8]) -> io::Result<()>
-    requires { length image.old ≡ 36832 }
-{
+fn damage(rt: &impl Print, image: &mut Image) -> io::Result<()> {
     head(rt, image)?;
     limits(rt, image)?;
     caps(rt, image)?;
@@ -164,7 +139,7 @@ fn damage(rt: &impl Print, image: &mut [u8]) -> io::Result<()>
 }
 
 fn main(rt: HostRuntime) -> io::Result<()> {
-    let mut image = [0u8; 36832];
+    let mut image = [0u8; image::LENGTH];
     empty(&rt, &mut image)?;
     fill(&rt, &mut image)?;
     damage(&rt, &mut image)
