@@ -21,7 +21,3 @@ unfolding items_within
 loop-i-preserved c = let l = c.loop-i in let x = c.args in
     all-step (item_within x.rec.now) l.i l.invariant (lt-ltb (item_address x.rec.now l.i) 64 (omega arith))
 
-pub returns : goal.returns
-unfolding items_within
-returns c = let l = c.loop-i in let x = c.args in
-    all_end (item_within x.rec.now) l.i x.count (search rules) (search rules) l.invariant
