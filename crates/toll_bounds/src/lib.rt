@@ -73,6 +73,7 @@ fn amount_in(amounts: &[u8], i: usize) -> Amount
 }
 
 // 4.
+#[tactic(auto, using(crate::specs::Laws::amounts_none, crate::specs::Laws::amounts_stop))]
 fn amounts_check(amounts: &[u8], count: usize) -> Result<(), Refusal>
     requires { (16 * count ≤ length amounts.now) × (count ≤ 16) }
     ensures { code result ≡ amounts_number amounts.now count }
@@ -94,6 +95,7 @@ fn arrival(toll: Amount, amounts: &[u8], i: usize) -> Amount
 }
 
 // 7, or the holding at a toll.
+#[tactic(auto, using(amount::specs::Laws::biased_below, crate::specs::Laws::after_none, crate::specs::Laws::pass_none))]
 fn holding_after(
     toll: Amount,
     held: Amount,
@@ -126,6 +128,7 @@ const NO_HOLDINGS: Holdings = Holdings {
 };
 
 // 46, 4, 7, of a good image.
+#[tactic(auto, using(crate::specs::Laws::request_free, crate::proofs::Whole::given_is))]
 fn holdings_of(
     image: &Image,
     t: u8,
@@ -149,6 +152,7 @@ fn holdings_of(
 }
 
 // 30, 46, 4, 7.
+#[tactic(auto, using(crate::proofs::Whole::refused_30, storage::specs::Facts::facts))]
 fn bounds_of(
     image: &[u8],
     token: u8,
@@ -187,6 +191,7 @@ pub fn toll_bounds(
 }
 
 // What holds of toll bounds, over the definition that the contract above cites.
+#[tactic(auto, using(crate::proofs::Proved::all_proved))]
 pub fn toll_bounds_theorems() -> u32
     ensures { TollBounds }
 {
