@@ -1,10 +1,10 @@
 -- What a check that gave 0 says: its rules all fail.
-use Rattle.std.specs.Prelude.{◌≡◌, List, [], ◌∷◌, ℕ, Bool, true, false, not, eqb, ltb, leb}
+use Rattle.std.specs.Prelude.{◌≡◌, List, ℕ, Bool, true, false, not, eqb, ltb, leb}
 use Rattle.std.proofs.Math.Path.{refl, sym}
 use Rattle.std.proofs.Common.{◌∙◌, ltb-true, ltb-false, le-leb}
 use Rattle.std.proofs.lemmas.Bool.{lt-leb}
 use Rattle.image.specs.Layout.{bit, flags, owner, initialised}
-use Rattle.fields.specs.Rules.{Guard, test, when, verdict, pick, AllFail, free, unlinked}
+use Rattle.fields.specs.Rules.{AllFail, free, unlinked}
 use Rattle.amount.specs.Biased.{num}
 use Rattle.checks.specs.Checks.{flag, initialised_bit, initialised_rules, initialised_number, owner_rules, not_owner_number, owner_number, insider_rules, not_insider_number, shared_number, amount_rules, amount_number, deposit_amount_rules, deposit_amount_number, limit_rules, limit_number}
 
@@ -73,12 +73,3 @@ not_above a b = go (ltb a b) refl
     go : (t : Bool) → ltb a b ≡ t → not t ≡ leb b a
     go true e = sym (lt-leb b a (ltb-true a b e))
     go false e = sym (le-leb b a (ltb-false a b e))
-
--- a list of one rule of code 1
-pub one_rule : (g : Guard) → num (test g) ≡ verdict (when g 1 ∷ [])
-unfolding verdict
-one_rule g = go (test g)
-  where
-    go : (t : Bool) → num t ≡ pick t 1 0
-    go true = refl
-    go false = refl

@@ -1,17 +1,17 @@
 // Checks that several operations make: each refuses by the first rule that holds, or lets the operation go on.
-#![tactic(auto)]
+#![tactic(auto, unfolding(fields::specs::Rules::chain, fields::specs::Rules::or_else, fields::specs::Rules::verdict, crate::specs::Checks::paused_number, crate::specs::Checks::signed_number, crate::specs::Checks::initialised_number, crate::specs::Checks::owner_role_number, crate::specs::Checks::not_owner_number, crate::specs::Checks::owner_number, crate::specs::Checks::insider, crate::specs::Checks::insider_role_number, crate::specs::Checks::not_insider_number, crate::specs::Checks::shared_number, crate::specs::Checks::amount_number, crate::specs::Checks::max_deposit_number, crate::specs::Checks::deposit_amount_number, crate::specs::Checks::approved_number, crate::specs::Checks::limit_number, crate::specs::Checks::cap_number, crate::specs::Checks::funds_number), using(amount::specs::Order::greater_is, amount::specs::Laws::over_high))]
 
-ghost use Rattle.std.specs.Prelude.{◌≡◌, ◌+◌, ◌<◌, ◌≤◌, length};
+ghost use Rattle.std.specs.Prelude.{◌≡◌, ◌<◌, ◌≤◌};
 ghost use Rattle.refusal.specs.Numbers.{code};
 ghost use Rattle.amount.specs.Biased.{bias, biased, num};
-ghost use Rattle.image.specs.Layout.{image_length};
 ghost use Rattle.image.specs.Flags.{flag_bit};
-ghost use Rattle.checks.specs.Checks.{max_vault_deposit, flag, in_set, insider, paused_number, signed_number, initialised_number, owner_role_number, not_owner_number, owner_number, insider_role_number, not_insider_number, shared_number, amount_number, max_deposit_number, deposit_amount_number, approved_number, limit_number, cap_number, funds_number};
+ghost use Rattle.checks.specs.Checks.{flag, in_set, insider, paused_number, signed_number, initialised_number, owner_role_number, not_owner_number, owner_number, insider_role_number, not_insider_number, shared_number, amount_number, max_deposit_number, deposit_amount_number, approved_number, limit_number, cap_number, funds_number};
 
 use amount::Amount;
 use image::{Flag, Image};
 use refusal::Refusal;
 
+#[tactic(auto, unfolding(crate::specs::Checks::flag), using(amount::specs::Laws::num_bit))]
 pub fn has_flag(img: &Image, wanted: Flag) -> bool
     ensures { num result ≡ flag (flag_bit wanted) img.now }
 {
@@ -19,6 +19,7 @@ pub fn has_flag(img: &Image, wanted: Flag) -> bool
 }
 
 // Whether a set of addresses holds one.
+#[tactic(auto, unfolding(crate::specs::Checks::in_set), using(amount::specs::Laws::num_bit))]
 pub fn contains(set: u64, a: u8) -> bool
     ensures { num result ≡ in_set set a }
 {
@@ -50,7 +51,10 @@ pub fn initialised_check(img: &Image) -> Result<(), Refusal>
 pub fn owner_role_check(img: &Image, caller: u8) -> Result<(), Refusal>
     ensures { code result ≡ owner_role_number img.now caller }
 {
-    refusal::refuse_if(fields::get8(img, image::OWNER) != caller, Refusal::NotAuthorized)
+    refusal::refuse_if(
+        fields::get8(img, image::OWNER) != caller,
+        Refusal::NotAuthorized,
+    )
 }
 
 // 1, 3.
@@ -140,7 +144,10 @@ pub fn deposit_amount_check(n: Amount) -> Result<(), Refusal>
 pub fn approved_check(img: &Image, t: u8) -> Result<(), Refusal>
     ensures { code result ≡ approved_number img.now t }
 {
-    refusal::refuse_if(!contains(fields::get64(img, image::APPROVED_SET), t), Refusal::TokenNotApproved)
+    refusal::refuse_if(
+        !contains(fields::get64(img, image::APPROVED_SET), t),
+        Refusal::TokenNotApproved,
+    )
 }
 
 // 7, 6 above a limit, of a holding and an amount that is not negative.
@@ -164,7 +171,10 @@ pub fn cap_check(img: &Image, caller: u8, sum: Amount) -> Result<(), Refusal>
     if !has_flag(img, Flag::OperatorLimit) {
         return Err(Refusal::LimitExceeded);
     }
-    refusal::refuse_if(sum > amount::read_amount(img, image::OPERATOR_LIMIT), Refusal::LimitExceeded)
+    refusal::refuse_if(
+        sum > amount::read_amount(img, image::OPERATOR_LIMIT),
+        Refusal::LimitExceeded,
+    )
 }
 
 // 6: above a holding.

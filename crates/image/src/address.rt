@@ -1,5 +1,5 @@
 // Addresses, and those among them that are tokens'.
-ghost use Rattle.std.specs.Prelude.{◌≡◌, ◌<◌, ◌≤◌, ℕ, MatchOption};
+ghost use Rattle.std.specs.Prelude.{◌≡◌, ◌<◌, ◌≤◌, MatchOption};
 ghost use Rattle.image.specs.Layout.{slot};
 
 use crate::FIRST_TOKEN;

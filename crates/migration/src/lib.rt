@@ -13,7 +13,7 @@ ghost use Rattle.migration.specs.Migration.{timelock, proposal_number, initiate_
 
 use amount::Amount;
 use events::{Buffer, Event};
-use image::{Flag, Image};
+use image::{Address, Flag, Image};
 use outcome::Answer;
 use record::Head;
 use refusal::Refusal;
@@ -85,9 +85,11 @@ fn migrate_holding(img: &mut Image, held: Amount) -> Result<(), Refusal>
     if !held.is_positive() {
         return Ok(());
     }
-    let t = usize::from(fields::get8(img, image::DEFAULT_TOKEN));
-    let to = usize::from(fields::get8(img, image::DESTINATION));
-    token::transfer(img, t, 1, to, held)
+    let t = fields::get8(img, image::DEFAULT_TOKEN);
+    let to = Address {
+        number: fields::get8(img, image::DESTINATION),
+    };
+    token::transfer(img, t, token::VAULT, to, held)
 }
 
 fn clear_migration(img: &mut Image)

@@ -1,18 +1,18 @@
 // Operations 10 to 14, 18 and 19: limits, operator and pause (lib.rs).
-#![tactic(auto)]
+#![tactic(auto, unfolding(fields::specs::Rules::chain, fields::specs::Rules::or_else, fields::specs::Rules::verdict, crate::specs::Settings::operator_limit_number, crate::specs::Settings::operator_limit_outcome, crate::specs::Settings::below_holding_number, crate::specs::Settings::limit_role_number, crate::specs::Settings::limit_set_number, crate::specs::Settings::limit_set_outcome, crate::specs::Settings::token_max_limit_number, crate::specs::Settings::token_max_limit_outcome, crate::specs::Settings::operator_set_outcome, crate::specs::Settings::operator_revoked_outcome, crate::specs::Settings::already_paused_number, crate::specs::Settings::pause_number, crate::specs::Settings::pause_outcome, crate::specs::Settings::not_paused_number, crate::specs::Settings::unpause_number, crate::specs::Settings::unpause_outcome), using(outcome::specs::Outcome::refused, outcome::specs::Outcome::announced, outcome::specs::Outcome::accepted))]
 
-ghost use Rattle.std.specs.Prelude.{◌≡◌, [], ◌<◌, length};
+ghost use Rattle.std.specs.Prelude.{◌≡◌, [], ◌<◌};
 ghost use Rattle.refusal.specs.Numbers.{code};
 ghost use Rattle.amount.specs.Biased.{biased};
-ghost use Rattle.image.specs.Layout.{image_length, initialised};
+ghost use Rattle.image.specs.Layout.{initialised};
 ghost use Rattle.storage.specs.Facts.{Good};
 ghost use Rattle.events.specs.Event.{event_buffer};
-ghost use Rattle.outcome.specs.Outcome.{Does, Formed};
-ghost use Rattle.settings.specs.Settings.{operator_limit_number, operator_limit_outcome, set_operator_withdraw_limit, below_holding_number, limit_role_number, limit_set_number, limit_set_outcome, set_limit, token_max_limit_number, token_max_limit_outcome, set_token_max_limit, operator_set_outcome, set_operator, operator_revoked_outcome, revoke_operator, already_paused_number, pause_number, pause_outcome, pause, not_paused_number, unpause_number, unpause_outcome, unpause};
+ghost use Rattle.outcome.specs.Outcome.{Does};
+ghost use Rattle.settings.specs.Settings.{operator_limit_number, operator_limit_outcome, below_holding_number, limit_role_number, limit_set_number, limit_set_outcome, token_max_limit_number, token_max_limit_outcome, operator_set_outcome, operator_revoked_outcome, pause_outcome, unpause_outcome};
 
 use amount::Amount;
 use events::{Buffer, Event};
-use image::{Flag, Image};
+use image::{Address, Flag, Image};
 use outcome::{Answer, Done};
 use record::Head;
 use refusal::Refusal;
@@ -45,6 +45,7 @@ pub fn set_operator_withdraw_limit(img: &mut Image, head: Head, events: &mut Buf
 }
 
 // 6: below the vault's holding of the default token.
+#[tactic(auto, unfolding(fields::specs::Rules::verdict, crate::specs::Settings::below_holding_number), using(amount::specs::Order::less_is))]
 fn below_holding_check(img: &Image, n: Amount) -> Result<(), Refusal>
     requires { Good img.now × (initialised img.now ≡ 1) }
     ensures { code result ≡ below_holding_number img.now (biased n) }
@@ -53,6 +54,7 @@ fn below_holding_check(img: &Image, n: Amount) -> Result<(), Refusal>
 }
 
 // Raising is for the owner only.
+#[tactic(auto, unfolding(crate::specs::Settings::limit_role_number), using(amount::specs::Order::less_is))]
 fn limit_role_check(img: &Image, caller: u8, n: Amount) -> Result<(), Refusal>
     ensures { code result ≡ limit_role_number img.now caller (biased n) }
 {
@@ -63,6 +65,7 @@ fn limit_role_check(img: &Image, caller: u8, n: Amount) -> Result<(), Refusal>
 }
 
 // 8; 1; 4; 6; 3; 22.
+#[tactic(auto, unfolding(fields::specs::Rules::chain, fields::specs::Rules::or_else, crate::specs::Settings::limit_set_number), using(checks::specs::Passed::initialised_free))]
 fn limit_check(img: &Image, head: Head) -> Result<(), Refusal>
     requires { Good img.now }
     ensures { code result ≡ limit_set_number img.now head.caller head.signers (biased head.amount) }
@@ -106,7 +109,8 @@ pub fn set_token_max_limit(img: &mut Image, head: Head, events: &mut Buffer) -> 
     ensures { Does (token_max_limit_outcome img.old head.caller head.token head.signers (biased head.amount)) result img.new events.new }
 {
     token_max_limit_check(img, head)?;
-    storage::set_token_max_limit(img, usize::from(head.token), head.amount);
+    let address = Address { number: head.token };
+    storage::set_token_max_limit(img, address, head.amount);
     Ok(Done::new(0))
 }
 
@@ -142,24 +146,12 @@ pub fn revoke_operator(img: &mut Image, head: Head, events: &mut Buffer) -> Answ
 }
 
 // 1, 3, 22; 18.
-fn pause_check(img: &Image, head: Head) -> Result<(), Refusal>
-    ensures { code result ≡ pause_number img.now head.caller head.signers }
-{
-    checks::owner_gate(img, head.caller, head.signers)?;
-    already_paused_check(img)
-}
-
-fn already_paused_check(img: &Image) -> Result<(), Refusal>
-    ensures { code result ≡ already_paused_number img.now }
-{
-    refusal::refuse_if(checks::has_flag(img, Flag::Paused), Refusal::AlreadyPaused)
-}
-
 pub fn pause(img: &mut Image, head: Head, events: &mut Buffer) -> Answer
     requires { Good img.old × (events.old ≡ event_buffer []) }
     ensures { Does (pause_outcome img.old head.caller head.signers head.timestamp) result img.new events.new }
 {
-    pause_check(img, head)?;
+    checks::owner_gate(img, head.caller, head.signers)?;
+    refusal::refuse_if(checks::has_flag(img, Flag::Paused), Refusal::AlreadyPaused)?;
     storage::set_flag(img, Flag::Paused);
     Ok(outcome::announce(
         events,
@@ -170,25 +162,13 @@ pub fn pause(img: &mut Image, head: Head, events: &mut Buffer) -> Answer
     ))
 }
 
-fn not_paused_check(img: &Image) -> Result<(), Refusal>
-    ensures { code result ≡ not_paused_number img.now }
-{
-    refusal::refuse_if(!checks::has_flag(img, Flag::Paused), Refusal::NotPaused)
-}
-
 // 1, 3, 22; 19.
-fn unpause_check(img: &Image, head: Head) -> Result<(), Refusal>
-    ensures { code result ≡ unpause_number img.now head.caller head.signers }
-{
-    checks::owner_gate(img, head.caller, head.signers)?;
-    not_paused_check(img)
-}
-
 pub fn unpause(img: &mut Image, head: Head, events: &mut Buffer) -> Answer
     requires { Good img.old × (events.old ≡ event_buffer []) }
     ensures { Does (unpause_outcome img.old head.caller head.signers head.timestamp) result img.new events.new }
 {
-    unpause_check(img, head)?;
+    checks::owner_gate(img, head.caller, head.signers)?;
+    refusal::refuse_if(!checks::has_flag(img, Flag::Paused), Refusal::NotPaused)?;
     storage::clear_flag(img, Flag::Paused);
     Ok(outcome::announce(
         events,

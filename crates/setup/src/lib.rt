@@ -25,7 +25,8 @@ fn valid_token_check(img: &Image, t: u8) -> Result<(), Refusal>
     ensures { code result ≡ valid_token_number img.now t }
 {
     refusal::refuse_if(t == 0, Refusal::InvalidToken)?;
-    token::presence_check(img, usize::from(t))
+    token::presence_check(img, t)?;
+    Ok(())
 }
 
 // 1, 3, 22; for a token to be approved 9, 23.

@@ -1,12 +1,12 @@
 // What storage.rs keeps in the image besides plain fields: tracked keys, credits, caps and snapshots. A token is named by its address.
 #![tactic(auto)]
 
-ghost use Rattle.std.specs.Prelude.{◌≡◌, ◌<◌, ◌≤◌, length};
+ghost use Rattle.std.specs.Prelude.{◌≡◌, ◌<◌};
 ghost use Rattle.fields.specs.Bytes.{put};
 ghost use Rattle.amount.specs.Biased.{biased};
 ghost use Rattle.refusal.specs.Numbers.{code};
 ghost use Rattle.image.specs.Flags.{flag_bit};
-ghost use Rattle.image.specs.Layout.{image_length, slot, flags, tracked_count, credit, with_bit, without_bit};
+ghost use Rattle.image.specs.Layout.{slot, flags, tracked_count, credit, with_bit, without_bit};
 ghost use Rattle.image.specs.Good.{tracked};
 ghost use Rattle.storage.specs.Facts.{Good, Keys};
 ghost use Rattle.storage.specs.Setters.{track_key, set_credit, set_cap, record_balance, snapshot_number};

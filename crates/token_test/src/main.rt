@@ -1,24 +1,26 @@
 // The token table: a line a transfer, with its number and then the two holdings' low halves. Token 48 moves and takes a toll of 3, token 49 is frozen, the others are absent.
-#![tactic(auto)]
-
-ghost use Rattle.std.specs.Prelude.{◌<◌, ◌≤◌};
+#![tactic(auto, using(storage::specs::Facts::facts))]
 
 use amount::Amount;
-use image::Image;
+use image::{Address, Image, Token};
 use refusal::Refusal;
 use std::io;
 
-fn show(rt: &impl Print, image: &Image, t: usize, a: usize) -> io::Result<()>
-    requires { (48 ≤ t) × (t < 64) × (a < 64) }
-{
-    let held = token::balance(image, t, a);
+const MOVING: Token = Token { address: 48 };
+
+const FROZEN: Token = Token { address: 49 };
+
+const ABSENT: Token = Token { address: 50 };
+
+const SENDER: Address = Address { number: 2 };
+
+fn show(rt: &impl Print, image: &Image, token: Token, a: Address) -> io::Result<()> {
+    let held = token::balance(image, token, a);
     print!(rt; "{} ", held.0 % (1 << 64))
 }
 
 // 30 where the image is not good.
-fn moved(image: &mut Image, t: usize, from: usize, to: usize, n: u64) -> Result<(), Refusal>
-    requires { (from < 64) × (to < 64) }
-{
+fn moved(image: &mut Image, t: u8, from: Address, to: Address, n: u64) -> Result<(), Refusal> {
     if !image::good_image(image) {
         return Err(Refusal::InvalidImage);
     }
@@ -28,23 +30,20 @@ fn moved(image: &mut Image, t: usize, from: usize, to: usize, n: u64) -> Result<
 fn try_transfer(
     rt: &impl Print,
     image: &mut Image,
-    t: usize,
-    from: usize,
-    to: usize,
+    token: Token,
+    to: Address,
     n: u64,
-) -> io::Result<()>
-    requires { (48 ≤ t) × (t < 64) × (from < 64) × (to < 64) }
-{
-    let answer = moved(image, t, from, to, n);
+) -> io::Result<()> {
+    let answer = moved(image, token.address, SENDER, to, n);
     print!(rt; "{} ", refusal::number(&answer))?;
-    show(rt, image, t, from)?;
-    show(rt, image, t, to)?;
+    show(rt, image, token, SENDER)?;
+    show(rt, image, token, to)?;
     println!(rt)
 }
 
 // An address that is no token's.
-fn try_stranger(rt: &impl Print, image: &mut Image, t: usize) -> io::Result<()> {
-    let answer = moved(image, t, 2, 1, 1);
+fn try_stranger(rt: &impl Print, image: &mut Image, t: u8) -> io::Result<()> {
+    let answer = moved(image, t, SENDER, token::VAULT, 1);
     println!(rt; "{} ", refusal::number(&answer))
 }
 
@@ -59,19 +58,20 @@ fn fill(image: &mut Image) {
 
 // Done, short of the amount, to itself, a toll above the amount, frozen, absent.
 fn plain(rt: &impl Print, image: &mut Image) -> io::Result<()> {
-    try_transfer(rt, image, 48, 2, 1, 50)?;
-    try_transfer(rt, image, 48, 2, 1, 51)?;
-    try_transfer(rt, image, 48, 2, 2, 20)?;
-    try_transfer(rt, image, 48, 2, 4, 2)?;
-    try_transfer(rt, image, 49, 2, 1, 1)?;
-    try_transfer(rt, image, 50, 2, 1, 1)
+    try_transfer(rt, image, MOVING, token::VAULT, 50)?;
+    try_transfer(rt, image, MOVING, token::VAULT, 51)?;
+    try_transfer(rt, image, MOVING, SENDER, 20)?;
+    try_transfer(rt, image, MOVING, Address { number: 4 }, 2)?;
+    try_transfer(rt, image, FROZEN, token::VAULT, 1)?;
+    try_transfer(rt, image, ABSENT, token::VAULT, 1)
 }
 
 // A receiver at 2^127 - 1: past it, and not, since the toll takes all.
 fn at_the_end(rt: &impl Print, image: &mut Image) -> io::Result<()> {
     amount::write_amount(image, 4144, Amount(i128::MAX));
-    try_transfer(rt, image, 48, 2, 5, 4)?;
-    try_transfer(rt, image, 48, 2, 5, 3)
+    let to = Address { number: 5 };
+    try_transfer(rt, image, MOVING, to, 4)?;
+    try_transfer(rt, image, MOVING, to, 3)
 }
 
 fn main(rt: HostRuntime) -> io::Result<()> {

@@ -9,7 +9,8 @@ use Rattle.std.proofs.Common.{Result, Ok, Err, IsErr, IsErrAnd}
 use Rattle.std.proofs.lemmas.Result.{MatchResult-from_err}
 use Rattle.std.specs.Result.{result_unwrap_or}
 use Rattle.refusal.specs.declared.Refusal.{Refusal}
-use Rattle.refusal.specs.Numbers.{number_of, code}
+use Rattle.refusal.specs.declared.Refusal.TheVariants.{InvalidImage}
+use Rattle.refusal.specs.Numbers.{number_of}
 use Rattle.refusal.specs.Laws.{some_number, code_passed}
 use Rattle.amount.specs.Biased.{bias, biased, put_amount}
 use Rattle.events.specs.Splice.{amount_bytes, put_amount_whole}
@@ -24,7 +25,7 @@ use Rattle.toll_bounds.specs.Parts.{TallyIs, HoldingsAre}
 
 module _ (l : List ℕ) (t : ℕ) (a : List ℕ) (least greatest : ℕ) where
   -- ---- refused
-  pub refused_is : (x : Refusal) (r : Result Holdings Refusal) → IsErr r × IsErrAnd r (λ y. y ≡ x) → number_of x ≡ bounds_number l t a least greatest → HoldingsAre (toll_bounds l t a least greatest) r
+  refused_is : (x : Refusal) (r : Result Holdings Refusal) → IsErr r × IsErrAnd r (λ y. y ≡ x) → number_of x ≡ bounds_number l t a least greatest → HoldingsAre (toll_bounds l t a least greatest) r
   refused_is x r p e =
       rw (bounds_refused l t a least greatest (λ z. some_number x (e ∙ z)))
       (record {
@@ -33,34 +34,37 @@ module _ (l : List ℕ) (t : ℕ) (a : List ℕ) (least greatest : ℕ) where
         greatest = MatchResult-from_err r _ _ p.0 (λ _. refl);
       })
 
-  pub stop_30 : good_image l ≡ false → 30 ≡ bounds_number l t a least greatest
+  stop_30 : good_image l ≡ false → 30 ≡ bounds_number l t a least greatest
   unfolding bounds_number image_number
   stop_30 e = link_at_lem (bounds_checks l t a least greatest) 0 30 (λ z. let w : ◌≡◌ {A = ℕ} 30 0 = rw e at z in omega arith) (rw e)
+
+  pub refused_30 : good_image l ≡ false → HoldingsAre (toll_bounds l t a least greatest) (Err InvalidImage)
+  refused_30 e = refused_is InvalidImage (Err InvalidImage) (refl, refl) (stop_30 e)
 
   module _ (g : good_image l ≡ true) where
     passed_30 : image_number l ≡ 0
     unfolding image_number
     passed_30 = rw g
 
-    pub stop_46 : {k : ℕ} → k ≡ request_number l t (length a) least greatest → (k ≡ 0 → ⊥) → k ≡ bounds_number l t a least greatest
+    pub refused_46 : (x : Refusal) {r : Result Holdings Refusal} → IsErr r × IsErrAnd r (λ y. y ≡ x) → number_of x ≡ request_number l t (length a) least greatest → HoldingsAre (toll_bounds l t a least greatest) r
     unfolding bounds_number
-    stop_46 e n = link_at_lem (bounds_checks l t a least greatest) 1 _ (passed_30, λ z. n (e ∙ z)) e
+    refused_46 x {r} f e = refused_is x r f (link_at_lem (bounds_checks l t a least greatest) 1 _ (passed_30, λ z. some_number x (e ∙ z)) e)
 
     module _ (p : 0 ≡ request_number l t (length a) least greatest) where
-      pub stop_4 : {k : ℕ} → k ≡ amounts_number a (amount_count a) → (k ≡ 0 → ⊥) → k ≡ bounds_number l t a least greatest
+      pub refused_4 : (x : Refusal) {r : Result Holdings Refusal} → IsErr r × IsErrAnd r (λ y. y ≡ x) → number_of x ≡ amounts_number a (amount_count a) → HoldingsAre (toll_bounds l t a least greatest) r
       unfolding bounds_number
-      stop_4 e n = link_at_lem (bounds_checks l t a least greatest) 2 _ (passed_30, (sym p, λ z. n (e ∙ z))) e
+      refused_4 x {r} f e = refused_is x r f (link_at_lem (bounds_checks l t a least greatest) 2 _ (passed_30, (sym p, λ z. some_number x (e ∙ z))) e)
 
       -- h is the holding read
       module _ {h : ℕ} (q : 0 ≡ amounts_number a (amount_count a)) (b : h ≡ holding l (slot t) 1) where
         at_toll : (toll : ℕ) {r : Result Amount Refusal} → TallyIs toll h (amount_in a) (amount_count a) r → TallyIs toll (holding l (slot t) 1) (amount_in a) (amount_count a) r
         at_toll toll u = rw b at u
 
-        pub stop_7 : {high : Result Amount Refusal} → TallyIs least h (amount_in a) (amount_count a) high → (code high ≡ 0 → ⊥) → code high ≡ bounds_number l t a least greatest
+        pub refused_7 : (x : Refusal) {r : Result Holdings Refusal} → IsErr r × IsErrAnd r (λ y. y ≡ x) → TallyIs least h (amount_in a) (amount_count a) (Err x) → HoldingsAre (toll_bounds l t a least greatest) r
         unfolding bounds_number
-        stop_7 u n =
+        refused_7 x {r} f u =
             let e = (at_toll least u).numbered in
-            link_at_lem (bounds_checks l t a least greatest) 3 _ (passed_30, (sym p, (sym q, λ w. n (e ∙ w)))) e
+            refused_is x r f (link_at_lem (bounds_checks l t a least greatest) 3 _ (passed_30, (sym p, (sym q, λ z. some_number x (e ∙ z)))) e)
 
         -- ---- not refused: at the greatest toll the holding does not pass either
         module _ {high : Amount} (u : TallyIs least h (amount_in a) (amount_count a) (Ok high)) where

@@ -1,7 +1,7 @@
 // Toll bounds (docs/FORMATS.md, "Toll bounds"): the least and the greatest holding of the vault after amounts are moved in at a toll that is known within bounds.
-#![tactic(auto)]
+#![tactic(auto, unfolding(fields::specs::Rules::chain, fields::specs::Rules::or_else, fields::specs::Rules::verdict, crate::specs::Bounds::list_number, crate::specs::Bounds::tolls_number, crate::specs::Bounds::token_number, crate::specs::Bounds::request_number), using(amount::specs::Order::less_is))]
 
-ghost use Rattle.std.specs.Prelude.{true, ◌≡◌, ◌+◌, ◌*◌, ◌<◌, ◌≤◌, length};
+ghost use Rattle.std.specs.Prelude.{IfOk, true, ◌≡◌, ◌+◌, ◌*◌, ◌<◌, ◌≤◌, length};
 ghost use Rattle.refusal.specs.Numbers.{code};
 ghost use Rattle.amount.specs.Biased.{bias, biased, amount_at};
 ghost use Rattle.image.specs.Good.{good_image};
@@ -11,52 +11,42 @@ ghost use Rattle.toll_bounds.specs.Parts.{TallyIs, HoldingsAre};
 ghost use Rattle.toll_bounds.specs.Theorems.{TollBounds};
 
 use amount::Amount;
-use image::{Image, Kind};
+use image::{Image, Kind, Token};
 use refusal::Refusal;
 
 // 46: the list's length.
 fn list_check(bytes: usize) -> Result<(), Refusal>
     ensures { code result ≡ list_number bytes }
 {
-    if bytes % 16 != 0 {
-        return Err(Refusal::InvalidTollBounds);
-    }
-    if bytes / 16 > 16 {
-        return Err(Refusal::InvalidTollBounds);
-    }
-    Ok(())
+    refusal::refuse_if(
+        bytes % 16 != 0 || bytes / 16 > 16,
+        Refusal::InvalidTollBounds,
+    )
 }
 
 // 46: the tolls.
 fn tolls_check(least: Amount, greatest: Amount) -> Result<(), Refusal>
     ensures { code result ≡ tolls_number (biased least) (biased greatest) }
 {
-    if least.is_negative() {
-        return Err(Refusal::InvalidTollBounds);
-    }
-    if greatest.is_negative() {
-        return Err(Refusal::InvalidTollBounds);
-    }
-    if greatest < least {
-        return Err(Refusal::InvalidTollBounds);
-    }
-    Ok(())
+    refusal::refuse_if(
+        least.is_negative() || greatest.is_negative() || greatest < least,
+        Refusal::InvalidTollBounds,
+    )
 }
 
 // 46: the token.
-fn token_check(img: &Image, t: u8) -> Result<(), Refusal>
-    ensures { code result ≡ token_number img.now t }
+#[tactic(auto, unfolding(fields::specs::Rules::verdict, crate::specs::Bounds::token_number), using(token::proofs::KindTests::moving, token::proofs::KindTests::not_moving))]
+fn token_check(img: &Image, t: u8) -> Result<Token, Refusal>
+    ensures number { code result ≡ token_number img.now t }
+    ensures token { IfOk result (λ token. token.address ≡ t) }
 {
-    if t > 63 {
+    let Some(token) = Token::new(t) else {
+        return Err(Refusal::InvalidTollBounds);
+    };
+    if image::token_kind(img, token) != Kind::Moving {
         return Err(Refusal::InvalidTollBounds);
     }
-    if t < 48 {
-        return Err(Refusal::InvalidTollBounds);
-    }
-    if image::token_kind(img, usize::from(t)) != Kind::Moving {
-        return Err(Refusal::InvalidTollBounds);
-    }
-    Ok(())
+    Ok(token)
 }
 
 // 46.
@@ -66,8 +56,9 @@ fn request_check(
     bytes: usize,
     least: Amount,
     greatest: Amount,
-) -> Result<(), Refusal>
-    ensures { code result ≡ request_number img.now t bytes (biased least) (biased greatest) }
+) -> Result<Token, Refusal>
+    ensures number { code result ≡ request_number img.now t bytes (biased least) (biased greatest) }
+    ensures token { IfOk result (λ token. token.address ≡ t) }
 {
     list_check(bytes)?;
     tolls_check(least, greatest)?;
@@ -82,6 +73,7 @@ fn amount_in(amounts: &[u8], i: usize) -> Amount
 }
 
 // 4.
+#[tactic(auto, using(crate::specs::Laws::amounts_none, crate::specs::Laws::amounts_stop))]
 fn amounts_check(amounts: &[u8], count: usize) -> Result<(), Refusal>
     requires { (16 * count ≤ length amounts.now) × (count ≤ 16) }
     ensures { code result ≡ amounts_number amounts.now count }
@@ -103,6 +95,7 @@ fn arrival(toll: Amount, amounts: &[u8], i: usize) -> Amount
 }
 
 // 7, or the holding at a toll.
+#[tactic(auto, using(amount::specs::Laws::biased_below, crate::specs::Laws::after_none, crate::specs::Laws::pass_none))]
 fn holding_after(
     toll: Amount,
     held: Amount,
@@ -135,20 +128,21 @@ const NO_HOLDINGS: Holdings = Holdings {
 };
 
 // 46, 4, 7, of a good image.
+#[tactic(auto, using(crate::specs::Laws::request_free, crate::proofs::Whole::given_is))]
 fn holdings_of(
     image: &Image,
-    token: u8,
+    t: u8,
     amounts: &[u8],
     least: Amount,
     greatest: Amount,
 ) -> Result<Holdings, Refusal>
     requires { good_image image.now ≡ true }
-    ensures { HoldingsAre (toll_bounds image.now token amounts.now (biased least) (biased greatest)) result }
+    ensures { HoldingsAre (toll_bounds image.now t amounts.now (biased least) (biased greatest)) result }
 {
-    request_check(image, token, amounts.len(), least, greatest)?;
+    let token = request_check(image, t, amounts.len(), least, greatest)?;
     let count = amounts.len() / 16;
     amounts_check(amounts, count)?;
-    let held = token::balance(image, usize::from(token), 1);
+    let held = token::balance(image, token, token::VAULT);
     let greatest_holding = holding_after(least, held, amounts, count)?;
     let least_holding = holding_after(greatest, held, amounts, count)?;
     Ok(Holdings {
@@ -158,6 +152,7 @@ fn holdings_of(
 }
 
 // 30, 46, 4, 7.
+#[tactic(auto, using(crate::proofs::Whole::refused_30, storage::specs::Facts::facts))]
 fn bounds_of(
     image: &[u8],
     token: u8,
@@ -196,6 +191,7 @@ pub fn toll_bounds(
 }
 
 // What holds of toll bounds, over the definition that the contract above cites.
+#[tactic(auto, using(crate::proofs::Proved::all_proved))]
 pub fn toll_bounds_theorems() -> u32
     ensures { TollBounds }
 {

@@ -1,13 +1,8 @@
 -- `checks::contains` meets its contract.
 use Rattle.std.proofs.Common.{arith, lit<, ◌^◌, ◌≤◌, ◌<◌, le-ltb}
 use Rattle.std.proofs.Math.Nat.{pow-le-pow_right, div-eq_of_lt}
-use Rattle.amount.specs.Laws.{num_bit}
 use Rattle.checks.specs.Checks.{in_set}
 use Rattle.checks.proofs.contains.Goals as goal
-
-pub returns-then-a-lt64 : goal.returns-then-a-lt64
-unfolding in_set
-returns-then-a-lt64 c = num_bit _ (omega arith)
 
 pub returns-else-a-lt64 : goal.returns-else-a-lt64
 unfolding in_set

