@@ -1,3 +1,2 @@
--- Lemmas for the proofs of the operations outside the vault.
-pub mod Steps
+-- What the operations outside the vault owe to demand 3.
 pub mod Owed

@@ -76,15 +76,11 @@ module _ {t seq caller by : ℕ} {ps : List Payout} {l e : List ℕ} (n i : ℕ)
       made : Pays (payout (item_address r i) (item_amount r i) ∷ []) t seq caller by m v i k m' v'
       made = rw (p, q) at d
 
-      pub pay_stop : {x y : List ℕ} → (k ≡ 0 → ⊥) → Pays ps t seq caller by l e 0 k x y
+      pub pay_stop : (k ≡ 0 → ⊥) → k ≡ payouts_number ps t seq l
       unfolding payouts_number
       pay_stop z =
           let c : k ≡ pay_number m t (item_address r i) (item_amount r i) = made.numbered ∙ or_none _ in
-          record {
-            numbered = c ∙ or_stop _ _ (λ y. z (c ∙ y)) ∙ sym next.numbered;
-            changed = λ y. absurd (z y);
-            written = λ y. absurd (z y);
-          }
+          c ∙ or_stop _ _ (λ y. z (c ∙ y)) ∙ sym next.numbered
 
       pub pay_turn : k ≡ 0 → Paying t seq caller by ps l e j (items o j r) m' v'
       unfolding payouts_number payouts_image payouts_events put_events

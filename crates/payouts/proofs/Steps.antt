@@ -6,10 +6,14 @@ use Prim.Native.Nat.{ℕ, ◌+◌, ◌-◌, ◌≤◌, ◌<◌}
 use native.Mathlib.Omega.{arith}
 use borrow.Author.Tests.{le-leb, lt-leb}
 use lib.Dec.{leb}
+use Rattle.std.specs.Prelude.{FitsSigned}
+use Rattle.std.specs.Int.{w128}
 use Rattle.std.proofs.Common.{Result}
+use Rattle.amount.specs.declared.Amount.{Amount}
+use Rattle.amount.specs.Laws.{biased_below}
 use Rattle.refusal.specs.declared.Refusal.{Refusal}
 use Rattle.refusal.specs.Numbers.{number_of, code}
-use Rattle.refusal.specs.Laws.{code_passed}
+use Rattle.refusal.specs.Laws.{code_passed, some_number}
 use Rattle.outcome.specs.Outcome.{Refuses}
 use Rattle.checks.specs.Checks.{paused_number, shared_number, amount_number, cap_number, funds_number}
 use Rattle.events.specs.Kinds.{withdrawn_event}
@@ -18,31 +22,30 @@ use Rattle.token.specs.Token.{vault_balance, transfer_number, transfer_of, trans
 use Rattle.token.specs.Laws.{transfer_free, transfer_done}
 use Rattle.storage.specs.Setters.{set_credit, record_balance}
 use Rattle.image.specs.Layout.{slot, holding, credit}
-use Rattle.amount.specs.Biased.{bias}
-use Rattle.fields.specs.Rules.{pick, verdict, stop_at, only_where, or_else, or_none, chain, link_at_lem, ends_at}
+use Rattle.amount.specs.Biased.{bias, biased}
+use Rattle.fields.specs.Rules.{pick, eq, when, verdict, stop_at, only_where, or_else, or_none, chain, ends_at}
 use Rattle.payouts.specs.Laws.{items-length}
 use Rattle.payouts.specs.Parts.{put_events, Pays}
 use Rattle.payouts.specs.Token.{take_credit}
 use Rattle.payouts.specs.Payouts.{Payout, payout, items, no_item_rules, no_item_number, item_number, items_number, items_sum, withdraw_checks, held_after, remaining_number, pay_number, pay_image, payouts_number, payouts_image, payouts_events}
 
--- ---- credits
-pub credit_lowered : (l : List ℕ) (t a n : ℕ) → n ≤ credit l (slot t) a → take_credit l t a n ≡ set_credit l t a (credit l (slot t) a + bias - n)
-unfolding take_credit
-credit_lowered l t a n h = rw (le-leb n (credit l (slot t) a) h)
+-- ---- credits: c is the credit read
+module _ (l : List ℕ) (t a n : ℕ) {c : ℕ} (e : c ≡ credit l (slot t) a) where
+  -- m is what is left of it, y the image after
+  pub credit_lowered : {m : ℕ} {y : List ℕ} → n ≤ c → m ≡ c + bias - n → y ≡ set_credit l t a m → y ≡ take_credit l t a n
+  unfolding take_credit
+  credit_lowered h f g = rw (g, f, e, le-leb n (credit l (slot t) a) (omega arith))
 
-pub credit-kept : (l : List ℕ) (t a n : ℕ) → credit l (slot t) a < n → take_credit l t a n ≡ l
-unfolding take_credit
-credit-kept l t a n h = rw (lt-leb n (credit l (slot t) a) h)
+  pub credit_kept : c < n → l ≡ take_credit l t a n
+  unfolding take_credit
+  credit_kept h = rw (lt-leb n (credit l (slot t) a) (omega arith))
 
--- ---- whether there is an item
-module _ (n : ℕ) (r : List ℕ) where
-  pub no_item : n ≡ 0 → 4 ≡ no_item_number (items n 0 r)
-  unfolding no_item_number
-  no_item z = let e = items-length n 0 r in stop_at (no_item_rules (items n 0 r)) 0 4 (omega arith) refl
-
-  pub some_item : (n ≡ 0 → ⊥) → no_item_number (items n 0 r) ≡ 0
-  unfolding no_item_number
-  some_item z = let e = items-length n 0 r in sym (stop_at (no_item_rules (items n 0 r)) 1 0 (omega arith, tt) refl)
+-- ---- the items of a record: there is none where their number is 0
+pub item_checks : (l : List ℕ) (caller signers n : ℕ) (r : List ℕ) {k : ℕ}
+    → k ≡ chain (paused_number l ∷ shared_number l caller signers ∷ verdict (when (eq n 0) 4 ∷ []) ∷ items_number (items n 0 r) bias ∷ cap_number l caller (items_sum (items n 0 r) bias) ∷ funds_number (vault_balance l) (items_sum (items n 0 r) bias) ∷ [])
+    → k ≡ withdraw_checks l caller signers (items n 0 r)
+unfolding withdraw_checks no_item_number
+item_checks l caller signers n r e = rw (items-length n 0 r) e
 
 -- ---- one item's checks are those of a list of one
 one_item : (to n : ℕ) {k : ℕ} → n < bias + bias → k ≡ amount_number n → k ≡ items_number (payout to n ∷ []) bias
@@ -64,20 +67,16 @@ one_none : (p : Payout) (ps : List Payout) → no_item_number (p ∷ ps) ≡ 0
 unfolding no_item_number
 one_none p ps = sym (stop_at (no_item_rules (p ∷ ps)) 1 0 (omega arith, tt) refl)
 
-pub one_checks : (l : List ℕ) (caller signers to n : ℕ) → n < bias + bias
-    → chain (paused_number l ∷ shared_number l caller signers ∷ amount_number n ∷ cap_number l caller n ∷ funds_number (vault_balance l) n ∷ [])
-    ≡ withdraw_checks l caller signers (payout to n ∷ [])
+pub one_checks : (l : List ℕ) (caller signers to : ℕ) (a : Amount) {k : ℕ} → FitsSigned w128 a.0
+    → k ≡ chain (paused_number l ∷ shared_number l caller signers ∷ amount_number (biased a) ∷ cap_number l caller (biased a) ∷ funds_number (vault_balance l) (biased a) ∷ [])
+    → k ≡ withdraw_checks l caller signers (payout to (biased a) ∷ [])
 unfolding withdraw_checks chain or_else
-one_checks l caller signers to n b = rw (one_none (payout to n) [], one-sum to n, ← one_item to n b refl)
+one_checks l caller signers to a b e = rw (one_none (payout to (biased a)) [], one-sum to (biased a), ← one_item to (biased a) (biased_below a b) refl) e
 
 -- ---- the transfer and what it leaves
 module _ (l : List ℕ) (t to n : ℕ) where
-  pub not_sent : {k : ℕ} → k ≡ transfer_number l t 1 to n → (k ≡ 0 → ⊥) → k ≡ pay_number l t to n
-  unfolding pay_number
-  not_sent e z = link_at_lem _ 0 _ (omega arith) e
-
-  pub had : {k : ℕ} → k ≡ transfer_number l t 1 to n → k ≡ 0 → n ≤ holding l (slot t) 1
-  had e z = (transfer_free l t 1 to n e z).1.1.1.0
+  pub had : {h : ℕ} → 0 ≡ transfer_number l t 1 to n → h ≡ holding l (slot t) 1 → n ≤ h
+  had e f = let g = (transfer_free l t 1 to n e refl).1.1.1.0 in omega arith
 
   -- y is the image after the transfer, which gave k; h the holding read there, o the one before, d what was to be left
   module _ {y : List ℕ} {k : ℕ} (a : k ≡ transfer_number l t 1 to n) (b : k ≡ 0) (c : y ≡ transferred l t 1 to n) where
@@ -96,21 +95,17 @@ module _ (l : List ℕ) (t to n : ℕ) where
           ends_at _ 1 _ (sym a ∙ b, tt) (only_where _ 13 (λ x y. p x (omega arith)) (λ x. let y = q x in omega arith))
 
 -- ---- what payouts that refused owe, they owe of the answer that passes the refusal on
-pub passed_pays : {ps : List Payout} {t seq caller by : ℕ} {l e : List ℕ} {i : ℕ} {m v : List ℕ} (x : Refusal) (r : Result (Unit {0}) Refusal) → Refuses r x → Pays ps t seq caller by l e i (number_of x) m v
-    → Pays ps t seq caller by l e i (code r) m v
-passed_pays x r p d = rw (code_passed x r p) d
+pub passed_pays : {ps : List Payout} {t seq caller by : ℕ} {l e : List ℕ} {i : ℕ} {m v : List ℕ} (x : Refusal) (r : Result (Unit {0}) Refusal) → Refuses r x → number_of x ≡ payouts_number ps t seq l → Pays ps t seq caller by l e i (code r) m v
+passed_pays x r p d = rw (code_passed x r p) (record { numbered = d; changed = λ y. absurd (some_number x y); written = λ y. absurd (some_number x y) })
 
 -- ---- one payout
-module _ (l : List ℕ) (t seq caller by to n : ℕ) {k : ℕ} (a : k ≡ pay_number l t to n) where
-  pub one_number : k ≡ payouts_number (payout to n ∷ []) t seq l
+module _ (l : List ℕ) (t seq caller by to n : ℕ) {e : List ℕ} {i : ℕ} {m v : List ℕ} where
+  pub not_paid : (x : Refusal) (r : Result (Unit {0}) Refusal) → Refuses r x → number_of x ≡ pay_number l t to n → Pays (payout to n ∷ []) t seq caller by l e i (code r) m v
   unfolding payouts_number
-  one_number = a ∙ sym (or_none _)
-
-  pub not_paid : (e : List ℕ) (i : ℕ) {m v : List ℕ} → (k ≡ 0 → ⊥) → Pays (payout to n ∷ []) t seq caller by l e i k m v
-  not_paid e i z = record { numbered = one_number; changed = λ y. absurd (z y); written = λ y. absurd (z y) }
+  not_paid x r p q = passed_pays x r p (q ∙ sym (or_none _))
 
   -- y is the image after the transfer, h the holding read there, f the fields of the event, m and v the image and the events after snapshot and event
-  pub paid : (e : List ℕ) (i : ℕ) {y m v : List ℕ} {h : ℕ} {f : EventFields} → k ≡ 0 → y ≡ transfer_of l t 1 to n → h ≡ holding y (slot t) 1 → m ≡ record_balance y t seq h
+  pub paid : {y : List ℕ} {h : ℕ} {f : EventFields} → 0 ≡ pay_number l t to n → y ≡ transfer_of l t 1 to n → h ≡ holding y (slot t) 1 → m ≡ record_balance y t seq h
       → f ≡ withdrawn_event caller to n h by → v ≡ put_event e i f → Pays (payout to n ∷ []) t seq caller by l e i 0 m v
-  unfolding payouts_image payouts_events pay_image put_events
-  paid e i z q r s w x = record { numbered = sym z ∙ one_number; changed = λ _. rw (s, r, q); written = λ _. rw (x, w, r, q) }
+  unfolding payouts_number payouts_image payouts_events pay_image put_events
+  paid a q r s w x = record { numbered = a ∙ sym (or_none _); changed = λ _. rw (s, r, q); written = λ _. rw (x, w, r, q) }

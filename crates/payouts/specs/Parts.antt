@@ -3,12 +3,13 @@ use Rattle.std.specs.Prelude.{◌≡◌, not, eqb, List, [], ◌∷◌, ℕ, suc
 use Rattle.events.specs.Event.{EventFields, put_event}
 use Rattle.amount.specs.Biased.{bias}
 use Rattle.image.specs.Layout.{owner}
+use Rattle.image.specs.declared.address.Token.{Token}
 use Rattle.record.specs.declared.Head.{Head}
 use Rattle.payouts.specs.declared.Withdrawal.{Withdrawal}
 use Rattle.payouts.specs.Payouts.{Payout, payouts_number, payouts_image, payouts_events}
 
 -- what the payouts of token t have in common, of image l and the record's head
-abbrev pub withdrawal_of : List ℕ → Head → ℕ → Withdrawal
+abbrev pub withdrawal_of : List ℕ → Head → Token → Withdrawal
 withdrawal_of l h t = record { token = t; sequence = h.sequence; caller = h.caller; by_operator = not (eqb (owner l) h.caller) }
 
 -- the event buffer l with the events es in its places from i on

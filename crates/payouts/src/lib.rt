@@ -1,5 +1,5 @@
 // Operations 5 `withdraw`, 6 `withdraw_batch` and 8 `withdraw_token` (lib.rs).
-#![tactic(auto)]
+#![tactic(auto, unfolding(fields::specs::Rules::chain, fields::specs::Rules::or_else, fields::specs::Rules::verdict), using(checks::specs::Passed::shared_free))]
 
 ghost use Rattle.std.specs.Prelude.{OnOk, IfOk, ◌≡◌, [], ◌∷◌, ◌+◌, ◌-◌, ◌<◌, ◌≤◌};
 ghost use Rattle.refusal.specs.Numbers.{code};
@@ -17,29 +17,26 @@ ghost use Rattle.payouts.specs.Parts.{withdrawal_of, Pays, Addressed, Payable};
 
 use amount::Amount;
 use events::{Buffer, Event};
-use image::Image;
+use image::{Address, Image, Token};
 use outcome::{Answer, Done};
 use record::{Head, Record};
 use refusal::Refusal;
 
-// The address of the vault itself.
-const VAULT: usize = 1;
-
 // What the payouts of one call have in common.
 #[derive(Clone, Copy)]
 struct Withdrawal {
-    token: usize,
+    token: Token,
     sequence: u32,
     caller: u8,
     by_operator: bool,
 }
 
 impl Withdrawal {
-    fn new(img: &Image, head: Head, t: u8) -> Withdrawal
-        ensures { result ≡ withdrawal_of img.now head t }
+    fn new(img: &Image, head: Head, token: Token) -> Withdrawal
+        ensures { result ≡ withdrawal_of img.now head token }
     {
         Withdrawal {
-            token: usize::from(t),
+            token,
             sequence: head.sequence,
             caller: head.caller,
             by_operator: fields::get8(img, image::OWNER) != head.caller,
@@ -60,6 +57,7 @@ impl Withdrawal {
 }
 
 // The sum of what came before and an item's amount: 4; 7.
+#[tactic(auto, unfolding(fields::specs::Rules::verdict, crate::specs::Payouts::item_number), using(crate::proofs::Sums::added_number, crate::proofs::Sums::added_total))]
 fn add_item(sum: Amount, n: Amount) -> Result<Amount, Refusal>
     ensures number { code result ≡ item_number (biased sum) (biased n) }
     ensures total { IfOk result (λ t. biased t ≡ biased sum + biased n - bias) }
@@ -71,28 +69,29 @@ fn add_item(sum: Amount, n: Amount) -> Result<Amount, Refusal>
 }
 
 // Item by item 4, 7.
-fn add_items(rec: &Record, count: usize) -> Result<Amount, Refusal>
+fn add_items(rec: &Record, count: u8) -> Result<Amount, Refusal>
     requires { count ≤ 16 }
     ensures number { code result ≡ items_number (items count 0 rec.now) bias }
     ensures total { IfOk result (λ t. biased t ≡ items_sum (items count 0 rec.now) bias) }
 {
     let mut sum = Amount::ZERO;
-    for i in 0..count {
+    for i in 0..usize::from(count) {
         sum = add_item(sum, record::item_amount(rec, i))?;
     }
     Ok(sum)
 }
 
 // 23; 13.
-fn send(img: &mut Image, t: usize, to: u8, n: Amount) -> Result<(), Refusal>
-    requires { Good img.old × (48 ≤ t) × (t < 64) × (to < 64) × (bias ≤ biased n) }
-    ensures value { code result ≡ pay_number img.old t to (biased n) }
-    ensures img_after { OnOk result (img.new ≡ transfer_of img.old t 1 to (biased n)) }
+#[tactic(auto, unfolding(fields::specs::Rules::chain, fields::specs::Rules::or_else, crate::specs::Payouts::pay_number), using(crate::proofs::Steps::had, crate::proofs::Steps::sent_is, refusal::specs::Laws::on_ok))]
+fn send(img: &mut Image, token: Token, to: Address, n: Amount) -> Result<(), Refusal>
+    requires { Good img.old × (bias ≤ biased n) }
+    ensures value { code result ≡ pay_number img.old token.address to.number (biased n) }
+    ensures img_after { OnOk result (img.new ≡ transfer_of img.old token.address 1 to.number (biased n)) }
 {
-    let held = token::balance(img, t, VAULT);
-    token::transfer(img, t, VAULT, usize::from(to), n)?;
+    let held = token::balance(img, token, token::VAULT);
+    token::transfer(img, token.address, token::VAULT, to, n)?;
     refusal::refuse_if(
-        token::balance(img, t, VAULT) != held - n,
+        token::balance(img, token, token::VAULT) != held - n,
         Refusal::WithdrawTransferFailed,
     )
 }
@@ -101,18 +100,18 @@ fn send(img: &mut Image, t: usize, to: u8, n: Amount) -> Result<(), Refusal>
 fn pay(
     img: &mut Image,
     paid: Withdrawal,
-    to: u8,
+    to: Address,
     n: Amount,
     i: usize,
     events: &mut Buffer,
 ) -> Result<(), Refusal>
-    requires { Good img.old × (i < 16) × (48 ≤ paid.token) × (paid.token < 64) × (to < 64) × (bias ≤ biased n) }
-    ensures { Pays (payout to (biased n) ∷ []) paid.token paid.sequence paid.caller (num paid.by_operator) img.old events.old i (code result) img.new events.new }
+    requires { Good img.old × (i < 16) × (bias ≤ biased n) }
+    ensures { Pays (payout to.number (biased n) ∷ []) paid.token.address paid.sequence paid.caller (num paid.by_operator) img.old events.old i (code result) img.new events.new }
 {
     send(img, paid.token, to, n)?;
-    let held = token::balance(img, paid.token, VAULT);
+    let held = token::balance(img, paid.token, token::VAULT);
     storage::record_vault_balance(img, paid.token, paid.sequence, held);
-    events::put_event(events, i, paid.event(to, n, held));
+    events::put_event(events, i, paid.event(to.number, n, held));
     Ok(())
 }
 
@@ -121,14 +120,16 @@ fn pay_items(
     img: &mut Image,
     rec: &Record,
     paid: Withdrawal,
-    count: usize,
+    count: u8,
     events: &mut Buffer,
 ) -> Result<(), Refusal>
-    requires { Good img.old × (initialised img.old ≡ 1) × (count ≤ 16) × (48 ≤ paid.token) × (paid.token < 64) × Payable (items count 0 rec.now) }
-    ensures { Pays (items count 0 rec.now) paid.token paid.sequence paid.caller (num paid.by_operator) img.old events.old 0 (code result) img.new events.new }
+    requires { Good img.old × (initialised img.old ≡ 1) × (count ≤ 16) × Payable (items count 0 rec.now) }
+    ensures { Pays (items count 0 rec.now) paid.token.address paid.sequence paid.caller (num paid.by_operator) img.old events.old 0 (code result) img.new events.new }
 {
-    for i in 0..count {
-        let to = record::item_address(rec, i);
+    for i in 0..usize::from(count) {
+        let to = Address {
+            number: record::item_address(rec, i),
+        };
         let n = record::item_amount(rec, i);
         pay(img, paid, to, n, i, events)?;
     }
@@ -136,6 +137,7 @@ fn pay_items(
 }
 
 // 8; 1, 3, 22; 4; 6; 6.
+#[tactic(auto, unfolding(fields::specs::Rules::chain, fields::specs::Rules::or_else), using(crate::proofs::Steps::one_checks, checks::specs::Passed::shared_free))]
 fn withdraw_checks(img: &Image, head: Head) -> Result<(), Refusal>
     requires { Good img.now }
     ensures { code result ≡ withdraw_checks img.now head.caller head.signers (payout head.other (biased head.amount) ∷ []) }
@@ -148,104 +150,115 @@ fn withdraw_checks(img: &Image, head: Head) -> Result<(), Refusal>
 }
 
 // 8; 1, 3, 22; 4; item by item 4, 7; 6; 6.
+#[tactic(auto, unfolding(fields::specs::Rules::chain, fields::specs::Rules::or_else, fields::specs::Rules::verdict), using(crate::proofs::Steps::item_checks, checks::specs::Passed::shared_free))]
 fn batch_checks(img: &Image, rec: &Record, head: Head) -> Result<(), Refusal>
     requires { Good img.now × (head.item_count ≤ 16) }
     ensures { code result ≡ withdraw_checks img.now head.caller head.signers (items head.item_count 0 rec.now) }
 {
     checks::paused_check(img)?;
     checks::shared_gate(img, head.caller, head.signers)?;
-    if head.item_count == 0 {
-        return Err(Refusal::InvalidAmount);
-    }
-    let sum = add_items(rec, usize::from(head.item_count))?;
+    refusal::refuse_if(head.item_count == 0, Refusal::InvalidAmount)?;
+    let sum = add_items(rec, head.item_count)?;
     checks::cap_check(img, head.caller, sum)?;
     checks::funds_check(token::vault_balance(img), sum)
 }
 
 // 6: not the owner, and the credit is below the amount.
-fn credit_check(img: &Image, t: usize, caller: u8, n: Amount) -> Result<(), Refusal>
-    requires { (48 ≤ t) × (t < 64) × (caller < 64) }
-    ensures { code result ≡ credit_number img.now t caller (biased n) }
+#[tactic(auto, unfolding(fields::specs::Rules::verdict, crate::specs::Token::credit_number), using(amount::specs::Order::less_is))]
+fn credit_check(img: &Image, token: Token, caller: Address, n: Amount) -> Result<(), Refusal>
+    ensures { code result ≡ credit_number img.now token.address caller.number (biased n) }
 {
-    if fields::get8(img, image::OWNER) == caller {
+    if fields::get8(img, image::OWNER) == caller.number {
         return Ok(());
     }
-    let credit = storage::get_token_account_balance(img, t, usize::from(caller));
+    let credit = storage::get_token_account_balance(img, token, caller);
     refusal::refuse_if(credit < n, Refusal::LimitExceeded)
 }
 
 // A credit is lowered only where it covers the amount.
-fn take_credit(img: &mut Image, t: usize, account: usize, n: Amount)
-    requires { Keys img.old × (48 ≤ t) × (t < 64) × (account < 64) × (bias ≤ biased n) }
-    ensures { img.new ≡ take_credit img.old t account (biased n) }
+#[tactic(auto, using(crate::proofs::Steps::credit_lowered, crate::proofs::Steps::credit_kept, amount::specs::Order::lt_true, amount::specs::Order::lt_false))]
+fn take_credit(img: &mut Image, token: Token, account: Address, n: Amount)
+    requires { Keys img.old × (bias ≤ biased n) }
+    ensures { img.new ≡ take_credit img.old token.address account.number (biased n) }
 {
-    let credit = storage::get_token_account_balance(img, t, account);
+    let credit = storage::get_token_account_balance(img, token, account);
     if credit < n {
         return;
     }
-    storage::set_token_account_balance(img, t, account, credit - n);
+    storage::set_token_account_balance(img, token, account, credit - n);
 }
 
 // What follows the transfer: credit, snapshot and event.
 fn settle(img: &mut Image, paid: Withdrawal, to: u8, n: Amount, events: &mut Buffer)
-    requires { Keys img.old × (48 ≤ paid.token) × (paid.token < 64) × (paid.caller < 64) × (bias ≤ biased n) }
-    ensures img_after { img.new ≡ record_balance (take_credit img.old paid.token paid.caller (biased n)) paid.token paid.sequence (holding img.old (slot paid.token) 1) }
-    ensures events_after { events.new ≡ put_event events.old 0 (withdrawn_event paid.caller to (biased n) (holding img.old (slot paid.token) 1) (num paid.by_operator)) }
+    requires { Keys img.old × (paid.caller < 64) × (bias ≤ biased n) }
+    ensures img_after { img.new ≡ record_balance (take_credit img.old paid.token.address paid.caller (biased n)) paid.token.address paid.sequence (holding img.old (slot paid.token.address) 1) }
+    ensures events_after { events.new ≡ put_event events.old 0 (withdrawn_event paid.caller to (biased n) (holding img.old (slot paid.token.address) 1) (num paid.by_operator)) }
 {
-    let held = token::balance(img, paid.token, VAULT);
-    take_credit(img, paid.token, usize::from(paid.caller), n);
+    let held = token::balance(img, paid.token, token::VAULT);
+    let account = Address {
+        number: paid.caller,
+    };
+    take_credit(img, paid.token, account, n);
     storage::record_vault_balance(img, paid.token, paid.sequence, held);
     events::put_event(events, 0, paid.event(to, n, held));
 }
 
 // 8; 1, 3, 22; 4; 6; 23; 6; 6.
-fn withdraw_token_checks(img: &Image, head: Head) -> Result<(), Refusal>
+#[tactic(auto, unfolding(fields::specs::Rules::chain, fields::specs::Rules::or_else, crate::specs::Token::withdraw_token_checks))]
+fn withdraw_token_checks(img: &Image, head: Head) -> Result<Token, Refusal>
     requires { head.caller < 64 }
-    ensures { code result ≡ withdraw_token_checks img.now head.token head.caller head.signers (biased head.amount) }
+    ensures number { code result ≡ withdraw_token_checks img.now head.token head.caller head.signers (biased head.amount) }
+    ensures token { IfOk result (λ token. token.address ≡ head.token) }
 {
-    let t = usize::from(head.token);
+    let caller = Address {
+        number: head.caller,
+    };
     checks::paused_check(img)?;
     checks::shared_gate(img, head.caller, head.signers)?;
     checks::amount_check(head.amount)?;
     checks::cap_check(img, head.caller, head.amount)?;
-    token::presence_check(img, t)?;
-    checks::funds_check(token::balance(img, t, VAULT), head.amount)?;
-    credit_check(img, t, head.caller, head.amount)
+    let token = token::presence_check(img, head.token)?;
+    checks::funds_check(token::balance(img, token, token::VAULT), head.amount)?;
+    credit_check(img, token, caller, head.amount)?;
+    Ok(token)
 }
 
 // Operation 5.
+#[tactic(auto, unfolding(fields::specs::Rules::chain, fields::specs::Rules::or_else, crate::specs::Payouts::withdraw_number, crate::specs::Payouts::withdraw_outcome), using(outcome::specs::Outcome::refused, crate::specs::Laws::checks_passed, crate::proofs::Whole::paid_out, crate::proofs::Whole::withdrawn))]
 pub fn withdraw(img: &mut Image, head: Head, events: &mut Buffer) -> Answer
     requires { Good img.old × (head.other < 64) × (events.old ≡ event_buffer []) }
     ensures { Does (withdraw_outcome img.old head.caller head.signers head.sequence (payout head.other (biased head.amount) ∷ [])) result img.new events.new }
 {
     withdraw_checks(img, head)?;
-    let t = fields::get8(img, image::DEFAULT_TOKEN);
-    let paid = Withdrawal::new(img, head, t);
-    pay(img, paid, head.other, head.amount, 0, events)?;
+    let paid = Withdrawal::new(img, head, token::default_token(img));
+    let to = Address { number: head.other };
+    pay(img, paid, to, head.amount, 0, events)?;
     Ok(Done::new(1))
 }
 
 // Operation 6.
+#[tactic(auto, unfolding(fields::specs::Rules::chain, fields::specs::Rules::or_else, crate::specs::Payouts::withdraw_number, crate::specs::Payouts::withdraw_outcome), using(outcome::specs::Outcome::refused, crate::specs::Laws::checks_passed, crate::proofs::Whole::paid_out, crate::proofs::Whole::items_withdrawn))]
 pub fn withdraw_batch(img: &mut Image, rec: &Record, head: Head, events: &mut Buffer) -> Answer
     requires good { Good img.old × (head.item_count ≤ 16) × (events.old ≡ event_buffer []) }
     requires addressed { Addressed (items head.item_count 0 rec.now) }
     ensures { Does (withdraw_outcome img.old head.caller head.signers head.sequence (items head.item_count 0 rec.now)) result img.new events.new }
 {
     batch_checks(img, rec, head)?;
-    let t = fields::get8(img, image::DEFAULT_TOKEN);
-    let paid = Withdrawal::new(img, head, t);
-    pay_items(img, rec, paid, usize::from(head.item_count), events)?;
+    let paid = Withdrawal::new(img, head, token::default_token(img));
+    pay_items(img, rec, paid, head.item_count, events)?;
     Ok(Done::new(head.item_count))
 }
 
 // Operation 8.
+#[tactic(auto, unfolding(fields::specs::Rules::chain, fields::specs::Rules::or_else, crate::specs::Token::withdraw_token_number, crate::specs::Token::withdraw_token_outcome), using(outcome::specs::Outcome::refused, crate::specs::Laws::token_checks_passed, crate::proofs::Whole::sent_keys, crate::proofs::Whole::token_withdrawn))]
 pub fn withdraw_token(img: &mut Image, head: Head, events: &mut Buffer) -> Answer
     requires { Good img.old × (head.caller < 64) × (head.other < 64) × (events.old ≡ event_buffer []) }
     ensures { Does (withdraw_token_outcome img.old head.token head.caller head.signers head.sequence head.other (biased head.amount)) result img.new events.new }
 {
-    withdraw_token_checks(img, head)?;
-    let paid = Withdrawal::new(img, head, head.token);
-    send(img, paid.token, head.other, head.amount)?;
+    let token = withdraw_token_checks(img, head)?;
+    let paid = Withdrawal::new(img, head, token);
+    let to = Address { number: head.other };
+    send(img, token, to, head.amount)?;
     settle(img, paid, head.other, head.amount, events);
     Ok(Done::new(1))
 }

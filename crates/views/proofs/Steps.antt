@@ -1,19 +1,18 @@
 -- The values of the views, from what the functions called say.
-use mathlib.Core.Bool.{Bool, true, false}
-use mir.Val.{bool_byte}
-use Rattle.amount.specs.Biased.{num}
-use mathlib.Core.Path.{◌≡◌, refl}
+use mathlib.Core.Path.{◌≡◌, refl, sym}
 use mathlib.Core.List.{List}
-use Prim.Native.Nat.{ℕ, ◌+◌, ◌≤◌, ◌<◌}
+use Prim.Native.Nat.{ℕ, ◌+◌, ◌-◌, ◌≤◌, ◌<◌}
 use native.Mathlib.Omega.{arith}
 use borrow.Author.Tests.{eq-eqb, ne_eqb, lt-ltb, le-ltb}
+use Rattle.checks.specs.Passed.{initialised_free}
+use Rattle.fields.specs.Rules.{unlinked}
 use Rattle.storage.specs.Facts.{Good}
 use Rattle.storage.specs.Writes.{holding_range, credit_range, default_range}
 use Rattle.token.specs.Token.{vault_balance}
 use Rattle.image.specs.Layout.{slot, owner, default_token, operator_limit, credit, initialised, has_operator_limit}
 use Rattle.amount.specs.Laws.{by_lt}
 use Rattle.amount.specs.Biased.{bias}
-use Rattle.views.specs.Views.{effective_value, account_balance}
+use Rattle.views.specs.Views.{effective_number, effective_value, account_balance}
 
 pub operator_limit_range : (l : List ℕ) → Good l → initialised l ≡ 1 → bias ≤ operator_limit l
 operator_limit_range l g i =
@@ -25,29 +24,31 @@ operator_limit_range l g i =
 pub default_holding : (l : List ℕ) → Good l → initialised l ≡ 1 → bias ≤ vault_balance l
 default_holding l g i = let (low, high) = default_range l g i in (holding_range l (slot (default_token l)) 1 g (omega arith) (omega arith)).0
 
+pub shown_balance : (l : List ℕ) {z : ℕ} → Good l → initialised l ≡ 1 → z ≡ vault_balance l → z ≡ bias + (vault_balance l - bias)
+shown_balance l g i e = let d = default_holding l g i in omega arith
+
+pub effective_free : (l : List ℕ) (caller : ℕ) → 0 ≡ effective_number l caller → initialised l ≡ 1
+unfolding effective_number
+effective_free l caller e = let u = unlinked _ (sym e) in initialised_free l refl u.1.0
+
 module _ (l : List ℕ) (caller : ℕ) (g : Good l) (i : initialised l ≡ 1) {h : ℕ} (e : h ≡ vault_balance l) where
-  pub owner-value : owner l ≡ caller → h ≡ bias + effective_value l caller
+  pub owner_value : owner l ≡ caller → h ≡ bias + effective_value l caller
   unfolding effective_value
-  owner-value o = let d = default_holding l g i in rw (eq-eqb (owner l) caller o) (omega arith)
+  owner_value o = let d = default_holding l g i in rw (eq-eqb (owner l) caller o) (omega arith)
 
   module _ (n : owner l ≡ caller → ⊥) where
-    pub capped-value : {m : ℕ} → m ≡ operator_limit l → m < h → m ≡ bias + effective_value l caller
+    pub capped_value : {m : ℕ} → m ≡ operator_limit l → m < h → m ≡ bias + effective_value l caller
     unfolding effective_value
-    capped-value q r = let d = default_holding l g i in let w = operator_limit_range l g i in rw (ne_eqb (owner l) caller n) (omega arith)
+    capped_value q r = let d = default_holding l g i in let w = operator_limit_range l g i in rw (ne_eqb (owner l) caller n) (omega arith)
 
     pub full_value : {m : ℕ} → m ≡ operator_limit l → h ≤ m → h ≡ bias + effective_value l caller
     unfolding effective_value
     full_value q r = let d = default_holding l g i in let w = operator_limit_range l g i in rw (ne_eqb (owner l) caller n) (omega arith)
 
-pub no_token : (l : List ℕ) (t a : ℕ) {z : ℕ} → t < 48 → z ≡ bias → z ≡ bias + account_balance l t a
+pub no_token : (l : List ℕ) (t a : ℕ) {z : ℕ} → t < 64 → (48 ≤ t → 64 ≤ t) → z ≡ bias → z ≡ bias + account_balance l t a
 unfolding account_balance
-no_token l t a h e = rw (lt-ltb t 48 h) (omega arith)
+no_token l t a h k e = let low : t < 48 = grind (arith, k) in rw (lt-ltb t 48 low) (omega arith)
 
-pub token-credit : (l : List ℕ) (t a : ℕ) {z : ℕ} → Good l → 48 ≤ t → t < 64 → a < 64 → z ≡ credit l (slot t) a → z ≡ bias + account_balance l t a
+pub token_credit : (l : List ℕ) (t a : ℕ) {z : ℕ} → Good l → 48 ≤ t → t < 64 → a < 64 → z ≡ credit l (slot t) a → z ≡ bias + account_balance l t a
 unfolding account_balance
-token-credit l t a g low high ah e = let (b, _) = credit_range l (slot t) a g (omega arith) ah in rw (le-ltb t 48 low) (omega arith)
-
--- `u64::from` of a bool is its number
-pub byte_num : (b : Bool) → bool_byte b ≡ num b
-byte_num true = refl
-byte_num false = refl
+token_credit l t a g low high ah e = let (b, _) = credit_range l (slot t) a g (omega arith) ah in rw (le-ltb t 48 low) (omega arith)

@@ -1,5 +1,5 @@
 // The views, operations 24 to 28 (lib.rs).
-#![tactic(auto)]
+#![tactic(auto, unfolding(fields::specs::Rules::chain, fields::specs::Rules::or_else, fields::specs::Rules::verdict, crate::specs::Views::withdraw_cap_number, crate::specs::Views::effective_number, crate::specs::Views::account_outcome, crate::specs::Views::approved_outcome, crate::specs::Views::compliant_number, crate::specs::Views::compliant_outcome), using(outcome::specs::Outcome::view_refused, outcome::specs::Outcome::view_accepted, checks::specs::Passed::initialised_free, amount::specs::Order::biased_zero))]
 
 ghost use Rattle.std.specs.Prelude.{◌≡◌, ◌+◌, ◌<◌};
 ghost use Rattle.refusal.specs.Numbers.{code};
@@ -10,11 +10,12 @@ ghost use Rattle.outcome.specs.Outcome.{Views};
 ghost use Rattle.views.specs.Views.{balance_outcome, withdraw_cap_number, effective_number, effective_value, effective_outcome, account_balance, account_outcome, approved_outcome, compliant_outcome};
 
 use amount::Amount;
-use image::{Flag, Image};
+use image::{Address, Flag, Image, Token};
 use outcome::{Answer, Done};
 use record::Head;
 use refusal::Refusal;
 
+#[tactic(auto, unfolding(crate::specs::Views::balance_outcome), using(outcome::specs::Outcome::view_refused, outcome::specs::Outcome::view_accepted, checks::specs::Passed::initialised_free, crate::proofs::Steps::shown_balance))]
 pub fn balance(img: &Image) -> Answer
     requires { Good img.now }
     ensures { Views (balance_outcome img.now) result }
@@ -48,6 +49,7 @@ fn effective_check(img: &Image, caller: u8) -> Result<(), Refusal>
     withdraw_cap_check(img, caller)
 }
 
+#[tactic(auto, using(crate::proofs::Steps::owner_value, crate::proofs::Steps::capped_value, crate::proofs::Steps::full_value, amount::specs::Order::lt_true, amount::specs::Order::lt_false))]
 fn effective_value(img: &Image, caller: u8) -> Amount
     requires { Good img.now × (initialised img.now ≡ 1) }
     ensures { biased result ≡ bias + effective_value img.now caller }
@@ -63,6 +65,7 @@ fn effective_value(img: &Image, caller: u8) -> Amount
     held
 }
 
+#[tactic(auto, unfolding(crate::specs::Views::effective_outcome), using(outcome::specs::Outcome::view_refused, outcome::specs::Outcome::view_accepted, crate::proofs::Steps::effective_free))]
 pub fn effective_withdraw_limit(img: &Image, head: Head) -> Answer
     requires { Good img.now }
     ensures { Views (effective_outcome img.now head.caller) result }
@@ -71,22 +74,25 @@ pub fn effective_withdraw_limit(img: &Image, head: Head) -> Answer
     Ok(Done::viewed(effective_value(img, head.caller)))
 }
 
-fn account_balance(img: &Image, t: u8, account: u8) -> Amount
-    requires { Good img.now × (t < 64) × (account < 64) }
-    ensures { biased result ≡ bias + account_balance img.now t account }
+#[tactic(auto, using(crate::proofs::Steps::no_token, crate::proofs::Steps::token_credit, amount::specs::Order::biased_zero))]
+fn account_balance(img: &Image, t: u8, account: Address) -> Amount
+    requires { Good img.now × (t < 64) }
+    ensures { biased result ≡ bias + account_balance img.now t account.number }
 {
-    let i = usize::from(t);
-    if i < image::FIRST_TOKEN {
+    let Some(token) = Token::new(t) else {
         return Amount::ZERO;
-    }
-    storage::get_token_account_balance(img, i, usize::from(account))
+    };
+    storage::get_token_account_balance(img, token, account)
 }
 
 pub fn get_token_account_balance(img: &Image, head: Head) -> Answer
     requires { Good img.now × (head.token < 64) × (head.caller < 64) }
     ensures { Views (account_outcome img.now head.token head.caller) result }
 {
-    Ok(Done::viewed(account_balance(img, head.token, head.caller)))
+    let account = Address {
+        number: head.caller,
+    };
+    Ok(Done::viewed(account_balance(img, head.token, account)))
 }
 
 pub fn is_token_approved(img: &Image, head: Head) -> Answer
@@ -102,6 +108,6 @@ pub fn is_token_compliant(img: &Image, head: Head) -> Answer
     if head.token == 0 {
         return Ok(Done::viewed(Amount::ZERO));
     }
-    token::presence_check(img, usize::from(head.token))?;
+    token::presence_check(img, head.token)?;
     Ok(Done::viewed(Amount::from(1)))
 }
