@@ -286,6 +286,7 @@ pub fn clear_events(events: &mut Buffer)
 }
 
 // 33 where the buffer is not 896 bytes long.
+#[tactic(auto, unfolding(crate::specs::Event::buffer_number, fields::specs::Rules::verdict))]
 pub fn buffer_check(events: &[u8]) -> Result<(), Refusal>
     ensures { code result ≡ buffer_number events.now }
 {

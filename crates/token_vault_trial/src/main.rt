@@ -97,6 +97,7 @@ struct Records {
 const RECORDS_END: u64 = 1 << 32;
 
 // The records that the arguments ask for, `words` counting the program's own name too.
+#[tactic(auto, unfolding(crate::specs::Arguments::argument_fault, fields::specs::Rules::verdict))]
 fn records_asked(
     words: usize,
     start: Option<u64>,

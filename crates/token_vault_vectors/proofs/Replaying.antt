@@ -7,38 +7,23 @@ use Prim.Native.Nat.{ℕ, zero, suc, ◌+◌, ◌≤◌}
 use native.Mathlib.Omega.{arith}
 use lib.Dec.{leb}
 use lib.ListN.{length, take, get_or, replicate, length-append}
-use lib.Seq.{take_at}
-use borrow.Author.Tests.{eq-eqb, ne_eqb, leb-true}
+use lib.Seq.{take_at, length-take-le}
+use borrow.Author.Tests.{leb-true}
 use Rattle.fields.specs.Bytes.{le}
 use Rattle.fields.specs.Rules.{passed, free, unlinked, verdict_in, chain_in}
-use Rattle.journal.specs.Calls.{operation, State}
+use Rattle.journal.specs.Calls.{State}
 use Rattle.journal.specs.Step.{vault}
-use Rattle.token_vault.specs.Preview.{Request, call, preview, request_step, run_requests}
-use Rattle.vault_vectors.specs.Vectors.{transaction, PrintsStep}
+use Rattle.token_vault.specs.Preview.{Request, request_step, run_requests}
+use Rattle.vault_vectors.specs.Vectors.{PrintsStep}
+use Rattle.token_vault_vectors.specs.declared.Kind.{Kind}
 use Rattle.token_vault_vectors.specs.Faults.{head_rules, head_fault, state_fault, call_head_rules, call_head_fault, record_fault, call_fault}
-use Rattle.token_vault_vectors.specs.Replay.{events_of, request_of, AnswersCall, IsCallFault, TakesCalls, TakesState, RunsList, TakesList, NextList, IsFault, ListsEnd}
+use Rattle.token_vault_vectors.specs.Replay.{byte_of, asked, asked_by, events_of, request_of, AnswersCall, IsCallFault, TakesCalls, TakesState, RunsList, TakesList, NextList, IsFault, ListsEnd}
 
 -- ---- a call
-module _ (s : State) (h r : List ℕ) {text image journal : List ℕ} where
-  -- the events of the head
-  module _ (e : List ℕ) {m : ℕ} (f : e ≡ replicate m (get_or h 1 0)) (g : m ≡ le 2 h 4) where
-    pub operation_called : PrintsStep (request_step s (call (operation r e))) text image journal → get_or h 0 0 ≡ 0 → PrintsStep (request_step s (request_of h r)) text image journal
-    unfolding request_of events_of
-    operation_called p z = rw (eq-eqb (get_or h 0 0) 0 z, ← g, ← f) p
-
-    pub preview_called : PrintsStep (request_step s (preview r e)) text image journal → get_or h 0 0 ≡ 5 → PrintsStep (request_step s (request_of h r)) text image journal
-    unfolding request_of events_of
-    preview_called p z = rw (z, ← g, ← f) p
-
-  pub transaction_called : (kind : ℕ) → transaction kind ≡ transaction (get_or h 0 0) → (get_or h 0 0 ≡ 0 → ⊥) → (get_or h 0 0 ≡ 5 → ⊥)
-      → PrintsStep (request_step s (call (transaction kind))) text image journal → PrintsStep (request_step s (request_of h r)) text image journal
-  unfolding request_of
-  transaction_called kind e y z p = rw (ne_eqb (get_or h 0 0) 0 y, ne_eqb (get_or h 0 0) 5 z, ← e) p
-
--- every kind but 0 to 3 and 5 is undo
-pub is_undo : (kind : ℕ) → (kind ≡ 1 → ⊥) → (kind ≡ 2 → ⊥) → (kind ≡ 3 → ⊥) → transaction 4 ≡ transaction kind
-unfolding transaction
-is_undo kind p q r = rw (ne_eqb kind 1 p, ne_eqb kind 2 q, ne_eqb kind 3 r) refl
+pub asked_whole : (kind : Kind) (h r : List ℕ) (n : ℕ) (e : List ℕ) → byte_of kind ≡ get_or h 0 0 → n ≡ le 2 h 4 → n ≤ length e
+    → asked kind r (replicate (length (take n e)) (get_or h 1 0)) ≡ request_of h r
+unfolding events_of
+asked_whole kind h r n e p q f = rw (length-take-le n e f, q) (asked_by kind h r p)
 
 module _ (head_read record_read : ℕ) (h b : List ℕ) {fault : ℕ} (e : fault ≡ call_fault head_read h record_read) where
   pub events_fit : fault ≡ 0 → le 2 h 4 ≤ 1024

@@ -1,11 +1,15 @@
 -- What is made of the bytes that are read: a call, the calls of a list, a list, and all lists (docs/VECTORS.md).
-use Rattle.std.specs.Prelude.{◌≡◌, Bool, false, List, ◌⊎◌, ℕ, ◌≤◌, ◌<◌, eqb, length, take, get_or, replicate}
+use Rattle.std.specs.Prelude.{◌≡◌, Bool, false, List, ◌⊎◌, ℕ, ◌≤◌, ◌<◌, eqb, length, take, get_or, replicate, Option, Some, None, refl}
+use Rattle.std.proofs.Common.{sym}
 use Rattle.fields.specs.Bytes.{le}
 use Rattle.fields.specs.Rules.{pick}
 use Rattle.journal.specs.Calls.{operation, State, Step}
 use Rattle.journal.specs.Step.{vault}
 use Rattle.token_vault.specs.Preview.{Request, call, preview, request_step, run_requests}
-use Rattle.vault_vectors.specs.Vectors.{step_line, transaction, PrintsStep}
+use Rattle.vault_vectors.specs.declared.Transaction.TheVariants.{Begin, Commit, Rollback, Undo}
+use Rattle.vault_vectors.specs.Vectors.{step_line, transaction, kind_of, PrintsStep}
+use Rattle.token_vault_vectors.specs.declared.Kind.{Kind}
+use Rattle.token_vault_vectors.specs.declared.Kind.TheVariants.{Operation, Transaction, Preview}
 use Rattle.token_vault_vectors.specs.Faults.{head_fault, state_fault, call_fault}
 
 -- t is the line of some step
@@ -24,6 +28,31 @@ request_of h r =
     pick (eqb (get_or h 0 0) 0) (call (operation r (events_of h)))
     (pick (eqb (get_or h 0 0) 5) (preview r (events_of h))
     (call (transaction (get_or h 0 0))))
+
+-- the kinds of the program and their bytes
+abbrev pub byte_of : Kind → ℕ
+byte_of Operation = 0
+byte_of (Transaction t) = kind_of t
+byte_of Preview = 5
+
+abbrev pub IsKind : Option Kind → ℕ → Type 0
+IsKind (Some kind) b = byte_of kind ≡ b
+IsKind None b = 5 < b
+
+-- what a kind asks for with the record r and the event buffer e
+abbrev pub asked : Kind → (r e : List ℕ) → Request
+asked Operation r e = call (operation r e)
+asked (Transaction t) r e = call (transaction (kind_of t))
+asked Preview r e = preview r e
+
+pub asked_by : (kind : Kind) (h r : List ℕ) → byte_of kind ≡ get_or h 0 0 → asked kind r (events_of h) ≡ request_of h r
+unfolding request_of
+asked_by Operation h r e = rw (sym e) refl
+asked_by (Transaction Begin) h r e = rw (sym e) refl
+asked_by (Transaction Commit) h r e = rw (sym e) refl
+asked_by (Transaction Rollback) h r e = rw (sym e) refl
+asked_by (Transaction Undo) h r e = rw (sym e) refl
+asked_by Preview h r e = rw (sym e) refl
 
 -- where record_read bytes were read into the buffer b: a call with no fault is answered as its step says, and any other changes nothing
 pub record AnswersCall (s : State) (head_read : ℕ) (h : List ℕ) (record_read : ℕ) (b : List ℕ) (fault : ℕ) (text image journal : List ℕ) : Type 0 where

@@ -1,7 +1,7 @@
 // Replays the vectors of docs/VECTORS.md: lists of calls from standard input, a line a call to standard output. The stored lines are those of the contract's Rust and of the model. At malformed input the run ends with a line to standard error.
 #![tactic(auto)]
 
-ghost use Rattle.std.specs.Prelude.{◌≡◌, ◌≤◌, ◌++◌, [], ◌∷◌, length, take, Some, OnOk, is_ok};
+ghost use Rattle.std.specs.Prelude.{◌≡◌, ◌≤◌, ◌++◌, [], ◌∷◌, length, take, get_or, replicate, Some, IfOk, OnOk, is_ok};
 ghost use Rattle.std.specs.Io.KnownBytes.{Appends};
 ghost use Rattle.std.specs.Fmt.{with_newline};
 ghost use Rattle.fields.specs.Bytes.{le};
@@ -10,7 +10,7 @@ ghost use Rattle.token_vault.specs.Preview.{request_step};
 ghost use Rattle.vault_vectors.specs.Vectors.{PrintsStep, step_line, text_of};
 ghost use Rattle.token_vault_vectors.specs.Faults.{head_fault, state_fault, has_needless, call_head_fault, record_fault, call_fault, fault_text, fault_line};
 ghost use Rattle.token_vault_vectors.specs.Numbers.{number_of, number_or_zero, code};
-ghost use Rattle.token_vault_vectors.specs.Replay.{IsStepLine, request_of, AnswersCall, TakesCalls, TakesState, RunsList, TakesList, WithJournal, NextList, IsFault, ListsEnd};
+ghost use Rattle.token_vault_vectors.specs.Replay.{IsStepLine, IsKind, byte_of, asked, request_of, AnswersCall, TakesCalls, TakesState, RunsList, TakesList, WithJournal, NextList, IsFault, ListsEnd};
 
 use std::io::{Read, Write};
 use std::{fmt, io};
@@ -56,25 +56,51 @@ impl fmt::Display for Fault {
     }
 }
 
-// A whole call: record and event buffer have their lengths, and kinds 1 to 4 have an empty event buffer.
+// What is asked by a call, in the first byte of its head.
+#[derive(Clone, Copy, Debug, PartialEq, Eq)]
+enum Kind {
+    Operation,
+    Transaction(Transaction),
+    Preview,
+}
+
+impl Kind {
+    fn of(byte: u8) -> Option<Kind>
+        ensures { IsKind result byte }
+    {
+        match byte {
+            0 => Some(Kind::Operation),
+            1 => Some(Kind::Transaction(Transaction::Begin)),
+            2 => Some(Kind::Transaction(Transaction::Commit)),
+            3 => Some(Kind::Transaction(Transaction::Rollback)),
+            4 => Some(Kind::Transaction(Transaction::Undo)),
+            5 => Some(Kind::Preview),
+            _ => None,
+        }
+    }
+}
+
+// A whole call: the event buffer is filled with `fill` before it.
+#[derive(Clone, Copy)]
+struct Request<'a> {
+    kind: Kind,
+    fill: u8,
+    record: &'a [u8],
+}
+
 fn answer_call(
     image: &mut [u8],
     journal: &mut [u8],
-    head: &[u8; 8],
-    record: &[u8],
+    request: Request<'_>,
     events: &mut [u8],
 ) -> StepLine
-    requires { length events.old ≡ le 2 head.now 4 }
-    ensures { PrintsStep (request_step (vault image.old journal.old) (request_of head.now «record».now)) (text_of result ++ (10 ∷ [])) image.new journal.new }
+    ensures { PrintsStep (request_step (vault image.old journal.old) (asked request.entry.kind request.entry.«record».now (replicate (length events.old) request.entry.fill))) (text_of result ++ (10 ∷ [])) image.new journal.new }
 {
-    fields::fill(events, head[1]);
-    match head[0] {
-        0 => vault_vectors::answer_operation(image, journal, record, events),
-        1 => vault_vectors::answer_transaction(image, journal, Transaction::Begin),
-        2 => vault_vectors::answer_transaction(image, journal, Transaction::Commit),
-        3 => vault_vectors::answer_transaction(image, journal, Transaction::Rollback),
-        5 => vault_vectors::answer_preview(image, journal, record, events),
-        _ => vault_vectors::answer_transaction(image, journal, Transaction::Undo),
+    fields::fill(events, request.fill);
+    match request.kind {
+        Kind::Operation => vault_vectors::answer_operation(image, journal, request.record, events),
+        Kind::Transaction(kind) => vault_vectors::answer_transaction(image, journal, kind),
+        Kind::Preview => vault_vectors::answer_preview(image, journal, request.record, events),
     }
 }
 
@@ -90,15 +116,13 @@ fn run_call<O: Write>(
     output: &mut O,
     image: &mut [u8],
     journal: &mut [u8],
-    head: &[u8; 8],
-    record: &[u8],
+    request: Request<'_>,
     events: &mut [u8],
 ) -> io::Result<()>
-    requires { length events.old ≡ le 2 head.now 4 }
-    ensures step { let s = request_step (vault image.old journal.old) (request_of head.now «record».now) in PrintsStep s (step_line s) image.new journal.new }
-    ensures printed { OnOk result (Appends (O.contents output.old) (O.contents output.new) (step_line (request_step (vault image.old journal.old) (request_of head.now «record».now)))) }
+    ensures step { let s = request_step (vault image.old journal.old) (asked request.entry.kind request.entry.«record».now (replicate (length events.old) request.entry.fill)) in PrintsStep s (step_line s) image.new journal.new }
+    ensures printed { OnOk result (Appends (O.contents output.old) (O.contents output.new) (step_line (request_step (vault image.old journal.old) (asked request.entry.kind request.entry.«record».now (replicate (length events.old) request.entry.fill))))) }
 {
-    let line = answer_call(image, journal, head, record, events);
+    let line = answer_call(image, journal, request, events);
     write_step_line(output, &line)
 }
 
@@ -110,24 +134,27 @@ struct CallRead {
 }
 
 // Only an operation and its preview have a record and an event buffer.
+#[tactic(auto, unfolding(crate::specs::Faults::has_needless), using(fields::specs::Logic::and_is, fields::specs::Logic::or_is))]
 fn has_needless(head: &[u8; 8]) -> bool
     ensures { result ≡ has_needless head.now }
 {
     let n = fields::get16(head, 2);
     let m = fields::get16(head, 4);
-    let is_transaction = fields::both(head[0] > 0, head[0] < 5);
-    fields::both(is_transaction, fields::either(n > 0, m > 0))
+    let is_transaction = (head[0] > 0) & (head[0] < 5);
+    is_transaction & ((n > 0) | (m > 0))
 }
 
-fn check_call_head(head: &[u8; 8], head_read: usize) -> Result<(), Fault>
-    ensures { code result ≡ call_head_fault head_read head.now }
+#[tactic(auto, unfolding(crate::specs::Faults::call_head_fault, fields::specs::Rules::verdict))]
+fn check_call_head(head: &[u8; 8], head_read: usize) -> Result<Kind, Fault>
+    ensures fault { code result ≡ call_head_fault head_read head.now }
+    ensures kind { IfOk result (λ kind. byte_of kind ≡ get_or head.now 0 0) }
 {
     if head_read != 8 {
         return Err(Fault::CallCut);
     }
-    if head[0] > 5 {
+    let Some(kind) = Kind::of(head[0]) else {
         return Err(Fault::Kind);
-    }
+    };
     if fields::get16(head, 6) != 0 {
         return Err(Fault::CallNotZero);
     }
@@ -140,9 +167,10 @@ fn check_call_head(head: &[u8; 8], head_read: usize) -> Result<(), Fault>
     if fields::get16(head, 4) > 1024 {
         return Err(Fault::EventsTooLong);
     }
-    Ok(())
+    Ok(kind)
 }
 
+#[tactic(auto, unfolding(crate::specs::Faults::record_fault, fields::specs::Rules::verdict))]
 fn check_record(head: &[u8; 8], record_read: usize) -> Result<(), Fault>
     ensures { code result ≡ record_fault head.now record_read }
 {
@@ -152,11 +180,13 @@ fn check_record(head: &[u8; 8], record_read: usize) -> Result<(), Fault>
     Ok(())
 }
 
-fn check_call(head: &[u8; 8], read: CallRead) -> Result<(), Fault>
-    ensures { code result ≡ call_fault read.head_read head.now read.record_read }
+fn check_call(head: &[u8; 8], read: CallRead) -> Result<Kind, Fault>
+    ensures fault { code result ≡ call_fault read.head_read head.now read.record_read }
+    ensures kind { IfOk result (λ kind. byte_of kind ≡ get_or head.now 0 0) }
 {
-    check_call_head(head, read.head_read)?;
-    check_record(head, read.record_read)
+    let kind = check_call_head(head, read.head_read)?;
+    check_record(head, read.record_read)?;
+    Ok(kind)
 }
 
 // What was read of a call, its fault, and whether its line was written.
@@ -187,10 +217,14 @@ fn fit_call<O: Write>(
             fault: Some(fault),
             written: Ok(()),
         },
-        Ok(()) => {
-            let n = read.record_read;
+        Ok(kind) => {
+            let request = Request {
+                kind,
+                fill: head[1],
+                record: &record[..read.record_read],
+            };
             let m = fields::get16(head, 4) as usize;
-            let written = run_call(output, image, journal, head, &record[..n], &mut events[..m]);
+            let written = run_call(output, image, journal, request, &mut events[..m]);
             AnsweredCall {
                 read,
                 fault: None,
@@ -208,7 +242,7 @@ fn read_call<I: Read>(input: &mut I, head: &mut [u8; 8], record: &mut [u8]) -> C
     let head_read = streams::read_full(input, head);
     let record_read = match check_call_head(head, head_read) {
         Err(_) => 0,
-        Ok(()) => {
+        Ok(_) => {
             let n = fields::get16(head, 2) as usize;
             streams::read_full(input, &mut record[..n])
         }
@@ -219,18 +253,39 @@ fn read_call<I: Read>(input: &mut I, head: &mut [u8; 8], record: &mut [u8]) -> C
     }
 }
 
+// What the calls of a list are read into, each as long as it may be.
+#[derive(Drop)]
+struct CallBuffers {
+    head: [u8; 8],
+    record: [u8; 512],
+    events: [u8; 1024],
+}
+
+impl CallBuffers {
+    fn new() -> CallBuffers {
+        CallBuffers {
+            head: [0u8; 8],
+            record: [0u8; 512],
+            events: [0u8; 1024],
+        }
+    }
+}
+
 fn next_call<I: Read, O: Write>(
     input: &mut I,
     output: &mut O,
     image: &mut [u8],
     journal: &mut [u8],
-    head: &mut [u8; 8],
-    record: &mut [u8; 512],
-    events: &mut [u8; 1024],
+    buffers: &mut CallBuffers,
 ) -> AnsweredCall
-    ensures answered { AnswersCall (vault image.old journal.old) result.read.head_read head.new result.read.record_read «record».new (number_or_zero result.fault) (step_line (request_step (vault image.old journal.old) (request_of head.new (take result.read.record_read «record».new)))) image.new journal.new }
-    ensures printed { number_or_zero result.fault ≡ 0 → OnOk result.written (Appends (O.contents output.old) (O.contents output.new) (step_line (request_step (vault image.old journal.old) (request_of head.new (take result.read.record_read «record».new))))) }
+    ensures answered { AnswersCall (vault image.old journal.old) result.read.head_read buffers.new.head result.read.record_read buffers.new.«record» (number_or_zero result.fault) (step_line (request_step (vault image.old journal.old) (request_of buffers.new.head (take result.read.record_read buffers.new.«record»)))) image.new journal.new }
+    ensures printed { number_or_zero result.fault ≡ 0 → OnOk result.written (Appends (O.contents output.old) (O.contents output.new) (step_line (request_step (vault image.old journal.old) (request_of buffers.new.head (take result.read.record_read buffers.new.«record»))))) }
 {
+    let CallBuffers {
+        head,
+        record,
+        events,
+    } = buffers;
     let read = read_call(input, head, record);
     fit_call(output, image, journal, head, record, read, events)
 }
@@ -252,18 +307,14 @@ fn all_calls<I: Read, O: Write>(
 ) -> TakenCalls
     ensures { TakesCalls (vault image.old journal.old) (vault image.new journal.new) count result.taken (number_or_zero result.fault) (is_ok result.written) }
 {
-    let mut head = [0u8; 8];
-    let mut record = [0u8; 512];
-    let mut events = [0u8; 1024];
+    let mut buffers = CallBuffers::new();
     for taken in 0..count {
         let AnsweredCall { fault, written, .. } = next_call(
             input,
             output,
             image,
             journal,
-            &mut head,
-            &mut record,
-            &mut events,
+            &mut buffers,
         );
         if fault.is_some() {
             return TakenCalls {
@@ -287,6 +338,7 @@ fn all_calls<I: Read, O: Write>(
     }
 }
 
+#[tactic(auto, unfolding(crate::specs::Faults::state_fault, fields::specs::Rules::verdict))]
 fn check_state(
     image: &[u8],
     journal: &[u8],
@@ -349,6 +401,7 @@ fn run_list<I: Read, O: Write>(
     )
 }
 
+#[tactic(auto, unfolding(crate::specs::Faults::head_fault, fields::specs::Rules::verdict))]
 fn check_head(head: &[u8; 16], head_read: usize) -> Result<(), Fault>
     ensures { code result ≡ head_fault head_read head.now }
 {

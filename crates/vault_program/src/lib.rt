@@ -107,8 +107,7 @@ fn all_records<I: Read, O: Write>(input: &mut I, output: &mut O, image: &mut [u8
     ensures { TakesRecords image.old image.new result.taken result.read (is_ok result.written) }
 {
     let mut record = [0u8; 448];
-    let mut taken = 0u64;
-    while taken < u64::MAX {
+    for taken in 0..u64::MAX {
         let AnsweredRecord { read: n, written } = next_record(input, output, image, &mut record);
         if n == 0 {
             return TakenRecords {
@@ -117,17 +116,16 @@ fn all_records<I: Read, O: Write>(input: &mut I, output: &mut O, image: &mut [u8
                 written,
             };
         }
-        taken += 1;
         if n < 448 || written.is_err() {
             return TakenRecords {
-                taken,
+                taken: taken + 1,
                 read: n,
                 written,
             };
         }
     }
     TakenRecords {
-        taken,
+        taken: u64::MAX,
         read: 448,
         written: Ok(()),
     }

@@ -41,7 +41,7 @@ step_line s =
 unfoldable pub text_of : StepLine → List ℕ
 text_of l =
     answer_words l.answer.number (value l.answer.value) l.answer.events
-    (event_bytes_text ++ (hexadecimal l.events ++ (image_text ++ (hexadecimal l.image ++ (journal_text ++ hexadecimal l.journal)))))
+    (event_bytes_text ++ (hexadecimal l.events_digest ++ (image_text ++ (hexadecimal l.image_digest ++ (journal_text ++ hexadecimal l.journal_digest)))))
 
 -- begin, commit, rollback and undo by their kinds 1 to 4
 unfoldable pub transaction : ℕ → Call

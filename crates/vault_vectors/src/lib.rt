@@ -20,9 +20,9 @@ use std::fmt;
 #[derive(Clone, Copy)]
 pub struct StepLine {
     answer: Answer,
-    events: [u8; 32],
-    image: [u8; 32],
-    journal: [u8; 32],
+    events_digest: [u8; 32],
+    image_digest: [u8; 32],
+    journal_digest: [u8; 32],
 }
 
 impl fmt::Display for StepLine {
@@ -30,9 +30,9 @@ impl fmt::Display for StepLine {
 
     fn fmt<W: fmt::Write>(&self, f: &mut fmt::Formatter<W>) -> fmt::Result {
         let answer = self.answer;
-        let events = Hexadecimal(&self.events);
-        let image = Hexadecimal(&self.image);
-        let journal = Hexadecimal(&self.journal);
+        let events = Hexadecimal(&self.events_digest);
+        let image = Hexadecimal(&self.image_digest);
+        let journal = Hexadecimal(&self.journal_digest);
         write!(
             f,
             "{answer} event_bytes={events} image={image} journal={journal}"
@@ -53,9 +53,9 @@ fn step_line(answer: Answer, events: &[u8], image: &[u8], journal: &[u8]) -> Ste
 {
     StepLine {
         answer,
-        events: digest(events),
-        image: digest(image),
-        journal: digest(journal),
+        events_digest: digest(events),
+        image_digest: digest(image),
+        journal_digest: digest(journal),
     }
 }
 

@@ -11,13 +11,20 @@ turned : {T : Type 0} (f : Fault) (n : ℕ) (r : Result T Fault) → number_of f
 turned f n (Ok x) e (h, g) = absurd g
 turned f n (Err y) e (h, g) = ap number_of g ∙ e
 
-pub returns-in_err-check_call_head : goal.returns-in_err-check_call_head
+pub returns-in_err-kind-clause-fault : goal.returns-in_err-kind-clause-fault
 unfolding call_fault
-returns-in_err-check_call_head c =
-    let f = c.in_err-check_call_head.field-0.0 in
-    let e = c.in_err-check_call_head.ensures in
+returns-in_err-kind-clause-fault c =
+    let f = c.in_err-kind.field-0.0 in
+    let e = c.in_err-kind.ensures.fault in
     turned f _ c.from_residual.result e c.from_residual.ensures ∙ link_at_lem _ 0 _ (λ z. some_number f (e ∙ z)) refl
 
-pub returns : goal.returns
+pub returns-in_err-check_record-clause-fault : goal.returns-in_err-check_record-clause-fault
 unfolding call_fault
-returns c = ends_at _ 1 _ (sym c.in_ok-check_call_head.ensures, tt) c.check_record.ensures
+returns-in_err-check_record-clause-fault c =
+    let f = c.in_err-check_record.field-0.0 in
+    let e = c.in_err-check_record.ensures in
+    turned f _ c.from_residual-in_err-check_record.result e c.from_residual-in_err-check_record.ensures ∙ ends_at _ 1 _ (sym c.in_ok-kind.ensures.fault, tt) refl
+
+pub returns-clause-fault : goal.returns-clause-fault
+unfolding call_fault
+returns-clause-fault c = ends_at _ 1 _ (sym c.in_ok-kind.ensures.fault, tt) c.in_ok-check_record.ensures

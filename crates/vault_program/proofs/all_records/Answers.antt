@@ -1,6 +1,6 @@
 -- `all_records` meets its contract. The invariant: the records so far are whole, and the image is the one after them.
 use mathlib.Core.Logic.{inl, inr}
-use mathlib.Core.Path.{refl, ap, ◌∙◌}
+use mathlib.Core.Path.{◌≡◌, refl, ap, ◌∙◌}
 use Rattle.vault_program.proofs.all_records.Goals.{then-n-lt448-via-then-n-lt448, then-n-lt448-via-else-n-lt448+then-is_err}
 use native.Mathlib.Omega.{arith}
 use Rattle.std.specs.Prelude.{not}
@@ -9,7 +9,7 @@ use Rattle.vault_program.proofs.Taken.{none_taken, all_taken, no_more, last_take
 use Rattle.vault_program.proofs.all_records.Goals as goal
 
 pub loop-taken-init : goal.loop-taken-init
-loop-taken-init g c = (none_taken _, refl, omega arith)
+loop-taken-init g c = (none_taken _, refl)
 
 pub returns-then-n-eq0 : goal.returns-then-n-eq0
 returns-then-n-eq0 g c = no_more c.loop-taken.invariant.0 c.next_record-n.ensures.answered.0 (omega arith)
@@ -23,7 +23,7 @@ returns-then-n-lt448 g c =
     ])
 
 pub loop-taken-preserved : goal.loop-taken-preserved
-loop-taken-preserved g c = (one_more c.loop-taken.invariant.0 c.next_record-n.ensures.answered.0 (omega arith) (omega arith), search rules, omega arith)
+loop-taken-preserved g c = (one_more c.loop-taken.invariant.0 c.next_record-n.ensures.answered.0 (omega arith) (omega arith), search rules)
 
 pub returns : goal.returns
-returns g c = all_taken c.loop-taken.invariant.0 (omega arith)
+returns g c = let l = c.loop-taken in let all : l.taken ≡ 18446744073709551615 = omega arith in all_taken {m = l.image} (rw all at l.invariant.0) refl
