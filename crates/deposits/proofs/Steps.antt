@@ -1,10 +1,13 @@
 -- The steps of a deposit, from what the functions called say.
-use Rattle.std.specs.Prelude.{Bool, true, false, not, FitsSigned}
+use Rattle.std.specs.Prelude.{List, [], ◌∷◌, Bool, true, false, not, ◌||◌, leb, FitsSigned, Option, Some, None, IfOk}
+use Rattle.std.specs.Option.{ok_or}
+use Rattle.refusal.specs.Numbers.{code}
+use Rattle.refusal.specs.declared.Refusal.TheVariants.{ArithmeticOverflow}
+use Rattle.amount.specs.Laws.{over_high, valued, sum-biased}
 use Rattle.std.proofs.Common.{Ordering, Less, Equal, Greater}
 use Rattle.std.specs.Int.{w128}
 use Rattle.std.specs.Ordering.{is_lt, is_ge, int_cmp}
 use mathlib.Core.Path.{◌≡◌, refl, sym, ap, ◌∙◌}
-use mathlib.Core.List.{List}
 use Prim.Native.Nat.{ℕ, ◌+◌, ◌-◌, ◌≤◌, ◌<◌}
 use native.Mathlib.Omega.{arith}
 use borrow.Author.Tests.{lt-ltb, le-ltb}
@@ -17,25 +20,41 @@ use Rattle.storage.specs.Regions.{same_keys}
 use Rattle.storage.specs.Setters.{set_credit, record_balance}
 use Rattle.image.specs.Layout.{slot, snapshot_at, holding, credit}
 use Rattle.amount.specs.declared.Amount.{Amount}
-use Rattle.amount.specs.Biased.{bias, biased}
-use Rattle.amount.specs.Order.{lt_true, lt_false}
-use Rattle.fields.specs.Rules.{ends_at}
-use Rattle.deposits.specs.Deposit.{overflow_number, expected_number, deposit_holding, expected_holding, receive_number, add_credit}
+use Rattle.amount.specs.Biased.{bias, biased, in_range}
+use Rattle.amount.specs.Order.{less_is}
+use Rattle.checks.specs.Passed.{not_above}
+use Rattle.fields.specs.Rules.{pick, Guard, test, when, verdict, stop_at, ends_at}
+use Rattle.deposits.specs.Deposit.{overflow_rules, overflow_number, expected_number, deposit_holding, expected_holding, receive_number, add_credit}
 use Rattle.deposits.specs.Report.{credited_number}
 use Rattle.deposits.specs.TokenDeposit.{receive_token_number}
 
-not_less : (o : Ordering) → is_lt o ≡ not (is_ge o)
+not_less : (o : Ordering) → is_ge o ≡ not (is_lt o)
 not_less Less = refl
 not_less Equal = refl
 not_less Greater = refl
 
--- t is what `>=` said of two amounts
-module _ {t : Bool} (a b : Amount) (f : FitsSigned w128 a.0) (g : FitsSigned w128 b.0) where
-  pub ge_true : t ≡ is_ge (int_cmp a.0 b.0) → t ≡ true → biased b ≤ biased a
-  ge_true e h = lt_false a b f g refl (not_less (int_cmp a.0 b.0) ∙ ap not (sym e ∙ h))
+-- what `>=` answers of two amounts
+pub ge_is : (a b : Amount) → FitsSigned w128 a.0 → FitsSigned w128 b.0 → is_ge (int_cmp a.0 b.0) ≡ leb (biased b) (biased a)
+ge_is a b f g = not_less (int_cmp a.0 b.0) ∙ ap not (less_is a b f g) ∙ not_above (biased a) (biased b)
 
-  pub ge_false : t ≡ is_ge (int_cmp a.0 b.0) → t ≡ false → biased a < biased b
-  ge_false e h = lt_true a b f g refl (not_less (int_cmp a.0 b.0) ∙ ap not (sym e ∙ h))
+-- three rules of one number: a, b and c are their tests
+pub any_of : {a b c : Bool} (f g h : Guard) (n : ℕ) → a ≡ test f → b ≡ test g → c ≡ test h → pick ((a || b) || c) n 0 ≡ verdict (when f n ∷ when g n ∷ when h n ∷ [])
+unfolding verdict
+any_of f g h n p q r = rw (p, q, r) (go (test f) (test g) (test h))
+  where
+    go : (x y z : Bool) → pick ((x || y) || z) n 0 ≡ pick x n (pick y n (pick z n 0))
+    go true y z = refl
+    go false true z = refl
+    go false false z = refl
+
+-- what `ok_or` makes of the checked sum of amounts, the second not below 0
+pub summed : {s : Option Amount} (a n : ℕ) → s ≡ in_range (a + n) → bias ≤ n → (code (ok_or s ArithmeticOverflow) ≡ overflow_number a n) × IfOk (ok_or s ArithmeticOverflow) (λ t. biased t ≡ a + n - bias)
+unfolding overflow_number
+summed {s} a n e h = go s e
+  where
+    go : (s : Option Amount) → s ≡ in_range (a + n) → (code (ok_or s ArithmeticOverflow) ≡ verdict (overflow_rules a n)) × IfOk (ok_or s ArithmeticOverflow) (λ t. biased t ≡ a + n - bias)
+    go None e = (stop_at (overflow_rules a n) 0 7 (over_high (a + n) e refl (omega arith)) refl, tt)
+    go (Some v) e = let g = (valued (a + n) e refl).0 in (stop_at (overflow_rules a n) 1 0 (omega arith) refl, sum-biased (a + n) e refl)
 
 -- a snapshot leaves the tracked keys
 pub snapshot_keys : (l : List ℕ) (t q n : ℕ) {y : List ℕ} → t < 64 → Keys l → y ≡ record_balance l t q n → Keys y

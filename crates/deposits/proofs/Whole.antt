@@ -8,25 +8,37 @@ use native.Mathlib.Omega.{arith}
 use borrow.Author.Tests.{eq-eqb, ne_eqb}
 use Rattle.refusal.specs.declared.Refusal.{Refusal}
 use Rattle.outcome.specs.declared.Done.{Done}
-use Rattle.outcome.specs.Outcome.{Does, Refuses, refused, accepted}
+use Rattle.outcome.specs.Outcome.{Does, Refuses, refused, accepted, Announced, announced}
 use Rattle.outcome.specs.Checked.{checks_pass}
 use Rattle.events.specs.Kinds.{deposited_event, token_deposited_event, vault_deposit_failed_event}
 use Rattle.events.specs.Event.{put_event, event_buffer}
 use Rattle.events.specs.Buffer.{appended}
 use Rattle.fields.specs.Rules.{AllFail}
 use Rattle.token.specs.Token.{transfer_rules, transfer_number, transfer_of, transferred}
-use Rattle.token.specs.Laws.{transfer_failed, good_transfer}
+use Rattle.token.specs.Laws.{transfer_free, transfer_failed, good_transfer}
+use Rattle.deposits.proofs.Steps.{moved_is}
 use Rattle.storage.specs.Facts.{Keys, Good}
 use Rattle.storage.specs.Setters.{record_balance}
 use Rattle.image.specs.Layout.{slot, default_token, holding}
 use Rattle.amount.specs.Biased.{bias, biased}
 use Rattle.deposits.specs.Deposit.{receive_number, add_credit, deposit_image, deposit_checks, deposited_outcome, deposit_outcome, gross_number, net_of, deposit_with_fee_outcome}
 use Rattle.deposits.specs.Report.{settled_report, report_outcome, failure_report_outcome}
-use Rattle.deposits.specs.TokenDeposit.{deposit_token_image}
+use Rattle.deposits.specs.TokenDeposit.{receive_token_number, deposit_token_image}
+use Rattle.deposits.proofs.Laws.{receive_free, receive_token_free}
 
 -- the tracked keys after a transfer to the vault
 pub moved_keys : (l : List ℕ) (t from n : ℕ) {y : List ℕ} → Good l → from < 64 → bias ≤ n → AllFail (transfer_rules l t from 1 n) → y ≡ transfer_of l t from 1 n → Keys y
 moved_keys l t from n g fh p f q = rw q (good_transfer l t from 1 n g fh (omega arith) p f).keys
+
+pub transfer_keys : (l : List ℕ) (t from n : ℕ) {k : ℕ} {y : List ℕ} → Good l → from < 64 → bias ≤ n → k ≡ transfer_number l t from 1 n → k ≡ 0 → y ≡ transferred l t from 1 n → Keys y
+transfer_keys l t from n g fh p e z c = moved_keys l t from n g fh p (transfer_free l t from 1 n e z) (moved_is l t from n e z c)
+
+module _ (l : List ℕ) (t from n : ℕ) {k : ℕ} {y : List ℕ} (g : Good l) (fh : from < 64) (p : bias < n) (q : y ≡ transfer_of l t from 1 n) (z : k ≡ 0) where
+  pub received_keys : k ≡ receive_number l t from n → Keys y
+  received_keys e = moved_keys l t from n g fh (omega arith) (receive_free l t from n e z).0 q
+
+  pub token_keys : k ≡ receive_token_number l t from n → Keys y
+  token_keys e = moved_keys l t from n g fh (omega arith) (receive_free l t from n refl (receive_token_free l t from n e z)).0 q
 
 -- y is the image after the transfer, m and w image and events after credit, snapshot and event
 pub deposited : (k v : ℕ) (l : List ℕ) (t from n : ℕ) {y m m' w : List ℕ} {d : Done} (o : List ℕ) → k ≡ 0 → y ≡ transfer_of l t from 1 n → o ≡ event_buffer []
@@ -68,13 +80,11 @@ module _ (l : List ℕ) (caller signers seq gross fee : ℕ) {m v : List ℕ} (z
 
 -- ---- operation 9: k is what the transfer gave
 module _ (l : List ℕ) (t from seq n : ℕ) {k : ℕ} (e : k ≡ transfer_number l t from 1 n) where
-  pub reported : {d : Done} {y o w : List ℕ} → (k ≡ 0 → ⊥) → y ≡ transferred l t from 1 n → o ≡ event_buffer [] → w ≡ put_event o 0 (vault_deposit_failed_event from t n)
-      → (biased d.value ≡ bias) × (d.events ≡ 1) → Does (report_outcome l t from seq n) (Ok d) y w
+  pub reported : {d : Done} {y w : List ℕ} → (k ≡ 0 → ⊥) → y ≡ transferred l t from 1 n → Announced (vault_deposit_failed_event from t n) d w → Does (report_outcome l t from seq n) (Ok d) y w
   unfolding report_outcome
-  reported z q b v r =
+  reported z q a =
       let f : transfer_number l t from 1 n ≡ 0 → ⊥ = λ y. z (e ∙ y) in
-      rw (ne_eqb (transfer_number l t from 1 n) 0 f)
-      (accepted refl (r.0 ∙ sym (add-zero bias)) r.1 (q ∙ transfer_failed l t from 1 n f) (appended [] 0 b refl v refl (omega arith)))
+      rw (ne_eqb (transfer_number l t from 1 n) 0 f) (announced refl refl a (q ∙ transfer_failed l t from 1 n f))
 
   pub not_reported : {a : Result Done Refusal} {m w : List ℕ} → k ≡ 0 → Does (settled_report l t from seq n) a m w → Does (report_outcome l t from seq n) a m w
   unfolding report_outcome

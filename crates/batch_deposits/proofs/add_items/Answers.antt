@@ -11,9 +11,6 @@ use Rattle.batch_deposits.proofs.add_items.Goals as goal
 pub loop-i-init : goal.loop-i-init
 loop-i-init c = sum_begins _ _ _ _ biased_zero
 
-pub item_check-requires : goal.item_check-requires
-item_check-requires c = (search rules, omega arith, c.requires.by_index c.loop-i.i (omega arith))
-
 pub returns-in_err-item_check-clause-number : goal.returns-in_err-item_check-clause-number
 returns-in_err-item_check-clause-number c =
     let x = c.args in

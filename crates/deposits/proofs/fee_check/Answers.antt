@@ -1,32 +1,17 @@
 -- `deposits::fee_check` meets its contract.
-use Rattle.deposits.proofs.Steps.{ge_true, ge_false}
+use Rattle.deposits.proofs.Steps.{any_of, ge_is}
 use Rattle.amount.specs.Biased.{bias, biased}
+use Rattle.checks.specs.Passed.{not_above}
 use Rattle.deposits.specs.Deposit.{fee_number}
-use Rattle.fields.specs.Rules.{stop_at}
-use Rattle.std.proofs.Common.{rules, sym, ◌∙◌, ltb-true, ltb-false}
-use mathlib.Core.Path.{refl}
+use Rattle.fields.specs.Rules.{lt, leq}
+use Rattle.std.proofs.Common.{rules, ap, ◌∙◌}
+use Rattle.std.specs.Prelude.{not}
 use Rattle.deposits.proofs.fee_check.Goals as goal
-
-pub returns-then-is_negative : goal.returns-then-is_negative
-unfolding fee_number
-returns-then-is_negative c = stop_at _ 0 _ (ltb-true (biased c.args.fee) bias (sym c.is_negative.ensures ∙ c.if-is_negative.true)) refl
-
-pub returns-then-not-is_positive : goal.returns-then-not-is_positive
-unfolding fee_number
-returns-then-not-is_positive c =
-    let low = ltb-false (biased c.args.fee) bias (sym c.is_negative.ensures ∙ c.if-is_negative.false) in
-    stop_at _ 1 _ (low, ltb-false bias (biased c.args.gross) (sym c.is_positive.ensures ∙ c.if-not-is_positive.true)) refl
-
-pub returns-then-ge : goal.returns-then-ge
-unfolding fee_number
-returns-then-ge c =
-    let low = ltb-false (biased c.args.fee) bias (sym c.is_negative.ensures ∙ c.if-is_negative.false) in
-    let above = ltb-true bias (biased c.args.gross) (sym c.is_positive.ensures ∙ c.if-not-is_positive.false) in
-    stop_at _ 2 _ (low, (above, ge_true c.args.fee c.args.gross (search rules) (search rules) c.ge.ensures c.if-ge.true)) refl
 
 pub returns : goal.returns
 unfolding fee_number
 returns c =
-    let low = ltb-false (biased c.args.fee) bias (sym c.is_negative.ensures ∙ c.if-is_negative.false) in
-    let above = ltb-true bias (biased c.args.gross) (sym c.is_positive.ensures ∙ c.if-not-is_positive.false) in
-    stop_at _ 3 _ (low, (above, (ge_false c.args.fee c.args.gross (search rules) (search rules) c.ge.ensures c.if-ge.false, tt))) refl
+    let x = c.args in
+    c.refuse_if.ensures
+    ∙ any_of (lt (biased x.fee) bias) (leq (biased x.gross) bias) (leq (biased x.gross) (biased x.fee)) 4 c.is_negative.ensures (ap not c.is_positive.ensures ∙ not_above bias (biased x.gross))
+    (c.ge.ensures ∙ ge_is x.fee x.gross (search rules) (search rules))

@@ -11,8 +11,8 @@ returns-in_err-approved_check c = passed_on _ 0 _ _ tt c.from_residual.ensures c
 
 pub returns-in_err-limit_check : goal.returns-in_err-limit_check
 unfolding funding_number
-returns-in_err-limit_check c = let e = rw (c.balance-held.ensures, c.read_amount.ensures) at c.in_err-limit_check.ensures in passed_on _ 1 _ _ (omega arith) c.from_residual-in_err-limit_check.ensures e
+returns-in_err-limit_check c = let e = rw (c.balance-held.ensures, c.from-i.ensures, c.read_amount.ensures) at c.in_err-limit_check.ensures in passed_on _ 1 _ _ (omega arith) c.from_residual-in_err-limit_check.ensures e
 
 pub returns : goal.returns
 unfolding funding_number
-returns c = let e = rw (c.balance-held.ensures, c.read_amount.ensures) at c.in_ok-limit_check.ensures in ends_at _ 2 _ (omega arith) (rw c.balance-held.ensures at c.check_vault_balance.ensures)
+returns c = let e = rw (c.balance-held.ensures, c.from-i.ensures, c.read_amount.ensures) at c.in_ok-limit_check.ensures in ends_at _ 2 _ (omega arith) (rw (c.balance-held.ensures, c.from-i.ensures) at c.check_vault_balance.ensures)

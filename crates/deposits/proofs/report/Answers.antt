@@ -1,42 +1,39 @@
 -- `deposits::report` meets its contract.
-use Rattle.deposits.proofs.Whole.{moved_keys, deposited, settled_image, reported, not_reported}
-use mathlib.Core.Path.{sym, refl}
-use Rattle.token.specs.Laws.{transfer_free}
+use Rattle.deposits.proofs.Whole.{deposited, settled_image, reported, not_reported}
+use mathlib.Core.Path.{sym}
 use Rattle.deposits.proofs.Steps.{moved_is, credited}
 use Rattle.refusal.specs.Laws.{code_is_err, code_is_ok}
-use Rattle.outcome.specs.Outcome.{refused, blank_long}
+use Rattle.outcome.specs.Outcome.{refused}
 use Rattle.amount.specs.Biased.{biased}
-use native.Mathlib.Omega.{arith}
+use mathlib.Core.Path.{refl}
 use Rattle.deposits.proofs.report.Goals as goal
-
-pub put_event-requires : goal.put_event-requires
-put_event-requires c = (blank_long c.requires.6, omega arith)
 
 pub returns-then-is_err : goal.returns-then-is_err
 returns-then-is_err c =
     let x = c.args in
-    let y = c.transfer.ensures in
-    reported x.img.now x.t x.from x.sequence (biased x.n) y.value (code_is_err c.transfer.result c.is_err.ensures.negation c.if-is_err.true) y.img_after c.requires.6 c.put_event.ensures c.new.ensures
+    let h = x.head in
+    let y = rw (c.from-i.ensures, c.from.ensures) at c.transfer.ensures in
+    reported x.img.now x.t h.caller h.sequence (biased h.amount) y.value (code_is_err c.transfer.result c.is_err.ensures.negation c.if-is_err.true) y.img_after c.announce.ensures
 
 pub returns-in_err-credited_check : goal.returns-in_err-credited_check
 returns-in_err-credited_check c =
     let x = c.args in
-    let y = c.transfer.ensures in
+    let h = x.head in
+    let t = c.from-i.result in
+    let y = rw c.from.ensures at c.transfer.ensures in
     let z = code_is_ok c.transfer.result c.is_err.ensures.negation c.if-is_err.false in
-    not_reported x.img.now x.t x.from x.sequence (biased x.n) y.value z (refused _ c.from_residual.ensures (credited x.img.now x.t x.from (biased x.n) y.value z y.img_after c.balance.ensures c.add-expected.ensures c.in_err-credited_check.ensures))
-
-pub settle-requires : goal.settle-requires
-settle-requires c =
-    let x = c.args in
-    let y = c.transfer.ensures in
-    let z = code_is_ok c.transfer.result c.is_err.ensures.negation c.if-is_err.false in
-    (omega (arith, c.transfer), moved_keys x.img.now x.t x.from (biased x.n) c.requires.0 c.requires.3 c.requires.4 (transfer_free x.img.now x.t x.from 1 (biased x.n) y.value z) (moved_is x.img.now x.t x.from (biased x.n) y.value z y.img_after), c.requires.1, c.requires.2, c.requires.3, c.requires.4, blank_long c.requires.6)
+    rw (← c.from-i.ensures)
+    (not_reported x.img.now t h.caller h.sequence (biased h.amount) y.value z (refused _ c.from_residual.ensures (credited x.img.now t h.caller (biased h.amount) y.value z y.img_after c.balance.ensures c.add-expected.ensures c.in_err-credited_check.ensures)))
 
 pub returns : goal.returns
 returns c =
     let x = c.args in
-    let y = c.transfer.ensures in
+    let h = x.head in
+    let t = c.from-i.result in
+    let y = rw c.from.ensures at c.transfer.ensures in
     let z = code_is_ok c.transfer.result c.is_err.ensures.negation c.if-is_err.false in
-    let q = credited x.img.now x.t x.from (biased x.n) y.value z y.img_after c.balance.ensures c.add-expected.ensures c.in_ok-credited_check.ensures in
-    let m = moved_is x.img.now x.t x.from (biased x.n) y.value z y.img_after in
-    not_reported x.img.now x.t x.from x.sequence (biased x.n) y.value z (deposited _ 1 x.img.now x.t x.from (biased x.n) x.events.now (sym q) m c.requires.6 (settled_image x.img.now x.t x.from x.sequence (biased x.n) m c.settle.ensures.img_after) c.settle.ensures.events_after c.from.ensures refl)
+    let q = credited x.img.now t h.caller (biased h.amount) y.value z y.img_after c.balance.ensures c.add-expected.ensures c.in_ok-credited_check.ensures in
+    let m = moved_is x.img.now t h.caller (biased h.amount) y.value z y.img_after in
+    let i = settled_image x.img.now t h.caller h.sequence (biased h.amount) m c.settle.ensures.img_after in
+    rw (← c.from-i.ensures)
+    (not_reported x.img.now t h.caller h.sequence (biased h.amount) y.value z (deposited _ 1 x.img.now t h.caller (biased h.amount) x.events.now (sym q) m c.requires.6 i c.settle.ensures.events_after c.from-2.ensures refl))

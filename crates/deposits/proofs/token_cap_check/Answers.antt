@@ -17,4 +17,4 @@ pub returns : goal.returns
 unfolding token_cap_number
 returns c =
     let e = rw c.get64.ensures at (num_true c.contains.ensures c.if-not-contains.false) in
-    rw (eq-eqb (in_set (capped_set c.args.img.now) c.args.t) 1 e) (rw c.read_amount.ensures at c.limit_check.ensures)
+    rw (eq-eqb (in_set (capped_set c.args.img.now) c.args.t) 1 e) (rw (c.read_amount.ensures, c.from.ensures) at c.limit_check.ensures)

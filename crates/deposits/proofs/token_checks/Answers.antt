@@ -1,11 +1,8 @@
 -- `deposits::token_checks` meets its contract.
 use Rattle.refusal.specs.Laws.{passed_on}
-use mathlib.Core.Path.{refl}
 use Rattle.deposits.specs.TokenDeposit.{token_checks}
 use Rattle.fields.specs.Rules.{ends_at}
-use Rattle.checks.specs.Passed.{deposit_amount_free}
 use native.Mathlib.Omega.{arith}
-use borrow.Author.Rules.{rules}
 use Rattle.deposits.proofs.token_checks.Goals as goal
 
 pub returns-in_err-paused_check : goal.returns-in_err-paused_check
@@ -19,9 +16,6 @@ returns-in_err-shared_gate c = passed_on _ 1 _ _ (omega arith) c.from_residual-i
 pub returns-in_err-deposit_amount_check : goal.returns-in_err-deposit_amount_check
 unfolding token_checks
 returns-in_err-deposit_amount_check c = passed_on _ 2 _ _ (omega arith) c.from_residual-in_err-deposit_amount_check.ensures c.in_err-deposit_amount_check.ensures
-
-pub token_funding_check-requires : goal.token_funding_check-requires
-token_funding_check-requires c = let above = deposit_amount_free _ c.in_ok-deposit_amount_check.ensures refl in (search rules, search rules, omega arith)
 
 pub returns : goal.returns
 unfolding token_checks

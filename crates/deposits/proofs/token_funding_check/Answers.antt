@@ -1,11 +1,8 @@
 -- `deposits::token_funding_check` meets its contract.
 use Rattle.refusal.specs.Laws.{passed_on}
-use mathlib.Core.Path.{refl}
 use Rattle.deposits.specs.TokenDeposit.{token_funding_number}
 use Rattle.fields.specs.Rules.{ends_at}
-use Rattle.token.specs.Laws.{absent_free}
 use native.Mathlib.Omega.{arith}
-use borrow.Author.Rules.{rules}
 use Rattle.deposits.proofs.token_funding_check.Goals as goal
 
 pub returns-in_err-approved_check : goal.returns-in_err-approved_check
@@ -14,18 +11,18 @@ returns-in_err-approved_check c = passed_on _ 0 _ _ tt c.from_residual.ensures c
 
 pub returns-in_err-presence_check : goal.returns-in_err-presence_check
 unfolding token_funding_number
-returns-in_err-presence_check c = passed_on _ 1 _ _ (omega arith) c.from_residual-in_err-presence_check.ensures c.in_err-presence_check.ensures
-
-pub balance-held-requires : goal.balance-held-requires
-balance-held-requires c = let f = absent_free _ _ c.in_ok-presence_check.ensures refl in (search rules, omega arith, omega arith, omega arith)
-
-pub check_vault_balance-requires : goal.check_vault_balance-requires
-check_vault_balance-requires c = let f = absent_free _ _ c.in_ok-presence_check.ensures refl in (search rules, omega arith, omega arith)
+returns-in_err-presence_check c = passed_on _ 1 _ _ (omega arith) c.from_residual-in_err-presence_check.ensures (rw c.from-t.ensures at c.in_err-presence_check.ensures)
 
 pub returns-in_err-check_vault_balance : goal.returns-in_err-check_vault_balance
 unfolding token_funding_number
-returns-in_err-check_vault_balance c = let e = rw c.balance-held.ensures at c.in_err-check_vault_balance.ensures in passed_on _ 2 _ _ (omega arith) c.from_residual-in_err-check_vault_balance.ensures e
+returns-in_err-check_vault_balance c =
+    let p = rw c.from-t.ensures at c.in_ok-presence_check.ensures in
+    let e = rw (c.balance-held.ensures, c.from-t.ensures) at c.in_err-check_vault_balance.ensures in
+    passed_on _ 2 _ _ (omega arith) c.from_residual-in_err-check_vault_balance.ensures e
 
 pub returns : goal.returns
 unfolding token_funding_number
-returns c = let e = rw c.balance-held.ensures at c.in_ok-check_vault_balance.ensures in ends_at _ 3 _ (omega arith) (rw c.balance-held.ensures at c.token_cap_check.ensures)
+returns c =
+    let p = rw c.from-t.ensures at c.in_ok-presence_check.ensures in
+    let e = rw (c.balance-held.ensures, c.from-t.ensures) at c.in_ok-check_vault_balance.ensures in
+    ends_at _ 3 _ (omega arith) (rw (c.balance-held.ensures, c.from-t.ensures) at c.token_cap_check.ensures)
