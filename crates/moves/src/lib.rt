@@ -16,11 +16,14 @@ use outcome::{Answer, Done};
 use record::Head;
 use refusal::Refusal;
 
+// The address of the vault itself.
+const VAULT: u8 = 1;
+
 // 14.
 fn sender_check(caller: u8) -> Result<(), Refusal>
     ensures { code result ≡ sender_number caller }
 {
-    refusal::refuse_if(caller == 1, Refusal::InvalidParam)
+    refusal::refuse_if(caller == VAULT, Refusal::InvalidParam)
 }
 
 // 14; 4.

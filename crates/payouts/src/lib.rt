@@ -9,7 +9,7 @@ ghost use Rattle.storage.specs.Facts.{Good, Keys};
 ghost use Rattle.storage.specs.Setters.{record_balance};
 ghost use Rattle.token.specs.Token.{transfer_of};
 ghost use Rattle.events.specs.Event.{event_buffer, put_event};
-ghost use Rattle.events.specs.Kinds.{withdrawn_event};
+ghost use Rattle.events.specs.Kinds.{fields_of, withdrawn_event};
 ghost use Rattle.outcome.specs.Outcome.{Does};
 ghost use Rattle.payouts.specs.Payouts.{payout, items, item_number, items_number, items_sum, withdraw_checks, pay_number, withdraw_outcome};
 ghost use Rattle.payouts.specs.Token.{credit_number, take_credit, withdraw_token_checks, withdraw_token_outcome};
@@ -43,6 +43,18 @@ impl Withdrawal {
             sequence: head.sequence,
             caller: head.caller,
             by_operator: fields::get8(img, image::OWNER) != head.caller,
+        }
+    }
+
+    fn event(self, to: u8, n: Amount, held: Amount) -> Event
+        ensures { fields_of result ≡ withdrawn_event self.caller to (biased n) (biased held) (num self.by_operator) }
+    {
+        Event::Withdrawn {
+            caller: self.caller,
+            to,
+            amount: n,
+            new_balance: held,
+            by_operator: self.by_operator,
         }
     }
 }
@@ -100,17 +112,7 @@ fn pay(
     send(img, paid.token, to, n)?;
     let held = token::balance(img, paid.token, VAULT);
     storage::record_vault_balance(img, paid.token, paid.sequence, held);
-    events::put_event(
-        events,
-        i,
-        Event::Withdrawn {
-            caller: paid.caller,
-            to,
-            amount: n,
-            new_balance: held,
-            by_operator: paid.by_operator,
-        },
-    );
+    events::put_event(events, i, paid.event(to, n, held));
     Ok(())
 }
 
@@ -193,17 +195,7 @@ fn settle(img: &mut Image, paid: Withdrawal, to: u8, n: Amount, events: &mut Buf
     let held = token::balance(img, paid.token, VAULT);
     take_credit(img, paid.token, usize::from(paid.caller), n);
     storage::record_vault_balance(img, paid.token, paid.sequence, held);
-    events::put_event(
-        events,
-        0,
-        Event::Withdrawn {
-            caller: paid.caller,
-            to,
-            amount: n,
-            new_balance: held,
-            by_operator: paid.by_operator,
-        },
-    );
+    events::put_event(events, 0, paid.event(to, n, held));
 }
 
 // 8; 1, 3, 22; 4; 6; 23; 6; 6.

@@ -3,11 +3,9 @@ use Rattle.refusal.specs.Laws.{passed_on}
 use mathlib.Core.Path.{refl}
 use Rattle.payouts.proofs.Steps.{no_item, some_item}
 use Rattle.payouts.specs.Payouts.{withdraw_checks}
-use Rattle.storage.specs.Writes.{default_range}
 use Rattle.checks.specs.Passed.{shared_free}
 use Rattle.fields.specs.Rules.{link_at_lem, ends_at}
 use native.Mathlib.Omega.{arith}
-use borrow.Author.Rules.{rules}
 use Rattle.payouts.proofs.batch_checks.Goals as goal
 
 pub returns-in_err-paused_check : goal.returns-in_err-paused_check

@@ -15,4 +15,4 @@ pub returns : goal.returns
 returns c =
     let x = c.args in
     let w = c.args.paid in
-    paid x.img.now w.token w.sequence w.caller (num w.by_operator) x.to (biased x.n) c.in_ok-send.ensures.value x.events.now x.i refl c.in_ok-send.ensures.img_after c.balance-held.ensures c.record_vault_balance.ensures refl c.put_event.ensures
+    paid x.img.now w.token w.sequence w.caller (num w.by_operator) x.to (biased x.n) c.in_ok-send.ensures.value x.events.now x.i refl c.in_ok-send.ensures.img_after c.balance-held.ensures c.record_vault_balance.ensures c.event.ensures c.put_event.ensures

@@ -4,7 +4,6 @@ use mathlib.Core.Path.{refl}
 use Rattle.payouts.proofs.Steps.{one_checks}
 use Rattle.amount.specs.Laws.{biased_below}
 use Rattle.checks.specs.Passed.{shared_free}
-use Rattle.storage.specs.Writes.{default_range}
 use Rattle.fields.specs.Rules.{ends_at}
 use native.Mathlib.Omega.{arith}
 use mathlib.Core.Path.{◌∙◌}

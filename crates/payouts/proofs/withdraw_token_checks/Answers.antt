@@ -5,7 +5,6 @@ use Rattle.payouts.specs.Token.{withdraw_token_checks}
 use Rattle.token.specs.Laws.{absent_free}
 use Rattle.fields.specs.Rules.{ends_at}
 use native.Mathlib.Omega.{arith}
-use borrow.Author.Rules.{rules}
 use Rattle.payouts.proofs.withdraw_token_checks.Goals as goal
 
 pub returns-in_err-paused_check : goal.returns-in_err-paused_check
