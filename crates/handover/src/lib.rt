@@ -1,5 +1,5 @@
 // Operations 15 to 17: the owner is proposed and accepted, and how long a proposal lives (lib.rs).
-#![tactic(auto)]
+#![tactic(auto, unfolding(fields::specs::Rules::chain, fields::specs::Rules::or_else, fields::specs::Rules::verdict, crate::specs::Handover::propose_outcome, crate::specs::Handover::propose_number, crate::specs::Handover::new_owner_number, crate::specs::Handover::pending_number, crate::specs::Handover::expired_number, crate::specs::Handover::accept_number, crate::specs::Handover::clear_pending, crate::specs::Handover::accept_outcome, crate::specs::Handover::proposal_ttl_outcome, crate::specs::Handover::proposal_ttl_number, crate::specs::Handover::ttl_number), using(outcome::specs::Outcome::refused, outcome::specs::Outcome::announced))]
 
 ghost use Rattle.std.specs.Prelude.{◌≡◌, []};
 ghost use Rattle.refusal.specs.Numbers.{code};

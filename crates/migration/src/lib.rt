@@ -1,5 +1,5 @@
 // Operations 21 to 23: the emergency migration of the vault's holding to a destination (lib.rs).
-#![tactic(auto)]
+#![tactic(auto, unfolding(fields::specs::Rules::chain, fields::specs::Rules::or_else, fields::specs::Rules::verdict, crate::specs::Migration::proposal_number, crate::specs::Migration::initiate_number, crate::specs::Migration::initiate_outcome, crate::specs::Migration::no_migration_number, crate::specs::Migration::early_number, crate::specs::Migration::execute_checks, crate::specs::Migration::migrate_number, crate::specs::Migration::migrate_holding, crate::specs::Migration::execute_number, crate::specs::Migration::clear_migration, crate::specs::Migration::execute_outcome, crate::specs::Migration::cancel_number, crate::specs::Migration::cancel_outcome), using(outcome::specs::Outcome::refused, outcome::specs::Outcome::announced))]
 
 ghost use Rattle.std.specs.Prelude.{IfOk, OnOk, ◌≡◌, [], ◌+◌};
 ghost use Rattle.refusal.specs.Numbers.{code};

@@ -1,5 +1,5 @@
 // Operations 1 `initialize` and 20 `approve_token` (lib.rs).
-#![tactic(auto)]
+#![tactic(auto, unfolding(fields::specs::Rules::chain, fields::specs::Rules::or_else, fields::specs::Rules::verdict, crate::specs::Setup::zero_token_number, crate::specs::Setup::valid_token_number, crate::specs::Setup::approve_number, crate::specs::Setup::approve_outcome, crate::specs::Setup::done_before_number, crate::specs::Setup::initialize_number, crate::specs::Setup::initialize_image, crate::specs::Setup::initialize_outcome), using(outcome::specs::Outcome::refused, outcome::specs::Outcome::announced))]
 
 ghost use Rattle.std.specs.Prelude.{◌≡◌, [], ◌<◌, eqb};
 ghost use Rattle.refusal.specs.Numbers.{code};
