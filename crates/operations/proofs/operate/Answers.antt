@@ -32,8 +32,8 @@ unfolding reads_items member
 withdraw_batch-requires c = record { good = (c.requires.0, head_count c.args.rec.now c.args.head WithdrawBatch c.requires.1 c.requires.2 c.in-WithdrawBatch.is refl, c.requires.3); addressed = addressed _ _ _ (head_item c.args.rec.now c.args.head WithdrawBatch c.requires.1 c.requires.2 c.in-WithdrawBatch.is refl); }
 
 pub deposit_token-requires : goal.deposit_token-requires
-unfolding reads_caller reads_token member
-deposit_token-requires c = (c.requires.0, head_caller c.args.rec.now c.args.head DepositToken c.requires.1 c.requires.2 c.in-DepositToken.is refl, head_token c.args.rec.now c.args.head DepositToken c.requires.1 c.requires.2 c.in-DepositToken.is refl, c.requires.3)
+unfolding reads_caller member
+deposit_token-requires c = (c.requires.0, head_caller c.args.rec.now c.args.head DepositToken c.requires.1 c.requires.2 c.in-DepositToken.is refl, c.requires.3)
 
 pub withdraw_token-requires : goal.withdraw_token-requires
 unfolding reads_caller reads_other member
