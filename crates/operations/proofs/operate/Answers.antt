@@ -4,7 +4,9 @@ use Rattle.operations.specs.Operations.{outcome_of}
 use Rattle.record.specs.Form.{reads_caller, reads_token, reads_other, reads_flag, reads_items, member}
 use Rattle.record.specs.Head.{head_operation, head_caller, head_token, head_other, head_flag, head_count, head_item}
 use Rattle.record.specs.declared.operation.Operation.TheVariants.{Initialize, Deposit, DepositWithFee, BatchDeposit, Withdraw, WithdrawBatch, DepositToken, WithdrawToken, DepositWithFailureReport, SetOperatorWithdrawLimit, SetLimit, SetTokenMaxLimit, SetOperator, RevokeOperator, ProposeOwner, AcceptOwner, SetOwnerProposalTtl, Pause, Unpause, ApproveToken, InitiateEmergencyMigration, ExecuteEmergencyMigration, CancelEmergencyMigration, OutsideMove, Freeze, View}
-use Rattle.payouts.specs.Laws.{addressed}
+use Rattle.payouts.specs.Laws.{items_addressed}
+use Rattle.std.proofs.Common.{arith}
+use Rattle.operations.specs.Laws.{view_does}
 use Rattle.operations.proofs.operate.Goals as goal
 
 pub initialize-requires : goal.initialize-requires
@@ -21,7 +23,7 @@ deposit_with_fee-requires c = (c.requires.0, head_caller c.args.rec.now c.args.h
 
 pub batch_deposit-requires : goal.batch_deposit-requires
 unfolding reads_items member
-batch_deposit-requires c = record { good = (c.requires.0, head_count c.args.rec.now c.args.head BatchDeposit c.requires.1 c.requires.2 c.in-BatchDeposit.is refl, c.requires.3); by_index = head_item c.args.rec.now c.args.head BatchDeposit c.requires.1 c.requires.2 c.in-BatchDeposit.is refl; }
+batch_deposit-requires c = record { good = (c.requires.0, c.requires.3, head_count c.args.rec.now c.args.head BatchDeposit c.requires.1 c.requires.2 c.in-BatchDeposit.is refl); by_index = head_item c.args.rec.now c.args.head BatchDeposit c.requires.1 c.requires.2 c.in-BatchDeposit.is refl; }
 
 pub withdraw-requires : goal.withdraw-requires
 unfolding reads_other member
@@ -29,7 +31,7 @@ withdraw-requires c = (c.requires.0, head_other c.args.rec.now c.args.head Withd
 
 pub withdraw_batch-requires : goal.withdraw_batch-requires
 unfolding reads_items member
-withdraw_batch-requires c = record { good = (c.requires.0, head_count c.args.rec.now c.args.head WithdrawBatch c.requires.1 c.requires.2 c.in-WithdrawBatch.is refl, c.requires.3); addressed = addressed _ _ _ (head_item c.args.rec.now c.args.head WithdrawBatch c.requires.1 c.requires.2 c.in-WithdrawBatch.is refl); }
+withdraw_batch-requires c = record { good = (c.requires.0, head_count c.args.rec.now c.args.head WithdrawBatch c.requires.1 c.requires.2 c.in-WithdrawBatch.is refl, c.requires.3); addressed = items_addressed c.args.head.item_count 0 c.args.rec.now (λ j p q. head_item c.args.rec.now c.args.head WithdrawBatch c.requires.1 c.requires.2 c.in-WithdrawBatch.is refl j (omega arith)); }
 
 pub deposit_token-requires : goal.deposit_token-requires
 unfolding reads_caller member
@@ -154,3 +156,9 @@ returns-in-OutsideMove c = let h = c.requires.2 in rw (head_operation c.args.rec
 pub returns-in-Freeze : goal.returns-in-Freeze
 unfolding outcome_of reads_flag member
 returns-in-Freeze c = let h = c.requires.2 in rw (head_operation c.args.rec.now c.args.head Freeze c.requires.1 c.requires.2 c.in-Freeze.is) (rw (h.token, head_flag c.args.rec.now c.args.head Freeze c.requires.1 c.requires.2 c.in-Freeze.is refl) at c.freeze.ensures)
+
+pub look-requires : goal.look-requires
+look-requires c = (c.requires.0, head_token c.args.rec.now c.args.head (View c.in-View.view) c.requires.1 c.requires.2 c.in-View.is, head_caller c.args.rec.now c.args.head (View c.in-View.view) c.requires.1 c.requires.2 c.in-View.is)
+
+pub returns-in-View : goal.returns-in-View
+returns-in-View c = view_does c.args.rec.now c.args.head c.in-View.view c.requires.2 c.in-View.is c.requires.3 c.look.ensures
