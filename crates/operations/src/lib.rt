@@ -1,5 +1,5 @@
 // The operations by their names: `operate` for those that may change the image, `look` for the views.
-#![tactic(auto, unfolding(record::specs::Form::reads_caller, record::specs::Form::reads_token, record::specs::Form::member))]
+#![tactic(auto, unfolding(crate::specs::Operations::outcome_of, record::specs::Form::reads_caller, record::specs::Form::reads_token, record::specs::Form::reads_other, record::specs::Form::reads_flag, record::specs::Form::reads_items, record::specs::Form::member), using(record::specs::Head::head_caller, record::specs::Head::head_token, record::specs::Head::head_other, record::specs::Head::head_flag, record::specs::Head::head_count, record::specs::Head::head_item, crate::specs::Laws::view_does))]
 
 ghost use Rattle.std.specs.Prelude.{◌≡◌, ◌<◌, true, []};
 ghost use Rattle.storage.specs.Facts.{Good};
