@@ -13,7 +13,7 @@ use Rattle.record.specs.Views.{view_number}
 use Rattle.views.specs.Views.{balance_outcome, effective_outcome, account_outcome, approved_outcome, compliant_outcome}
 use Rattle.operations.specs.Operations.{outcome_of, view_outcome}
 
-viewed : (l r : List ℕ) (h : Head) (v : _) → HeadOf r h → h.operation ≡ View v → view_outcome v l h.token h.caller ≡ outcome_of l r
+pub viewed : (l r : List ℕ) (h : Head) (v : _) → HeadOf r h → h.operation ≡ View v → view_outcome v l h.token h.caller ≡ outcome_of l r
 unfolding outcome_of
 viewed l r h v f e = rw (f.token, f.caller) (go v (sym (ap operation_number e) ∙ f.operation))
   where
