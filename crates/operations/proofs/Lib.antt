@@ -1,5 +1,4 @@
--- What holds of every row of the table of operations, and lemmas for the two functions that go by it.
-pub mod Dispatched
+-- What holds of every row of the table of operations.
 pub mod Owed
 pub mod Numbers
 pub mod Silent

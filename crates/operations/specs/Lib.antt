@@ -1,2 +1,3 @@
--- The table of operations.
+-- The table of operations, and the views by their names.
 pub mod Operations
+pub mod Laws

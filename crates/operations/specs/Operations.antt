@@ -10,10 +10,12 @@ use Rattle.deposits.specs.Report.{deposit_with_failure_report}
 use Rattle.settings.specs.Settings.{set_operator_withdraw_limit, set_limit, set_token_max_limit, set_operator, revoke_operator, pause, unpause}
 use Rattle.handover.specs.Handover.{propose_owner, accept_owner, set_owner_proposal_ttl}
 use Rattle.migration.specs.Migration.{initiate_emergency_migration, execute_emergency_migration, cancel_emergency_migration}
-use Rattle.views.specs.Views.{balance, effective_withdraw_limit, get_token_account_balance, is_token_approved, is_token_compliant}
+use Rattle.views.specs.Views.{balance, effective_withdraw_limit, get_token_account_balance, is_token_approved, is_token_compliant, balance_outcome, effective_outcome, account_outcome, approved_outcome, compliant_outcome}
 use Rattle.moves.specs.Outside.{outside_move, freeze}
 use Rattle.outcome.specs.Outcome.{Outcome}
 use Rattle.record.specs.Record.{operation_of}
+use Rattle.record.specs.declared.operation.View.{View}
+use Rattle.record.specs.declared.operation.View.TheVariants.{Balance, EffectiveWithdrawLimit, GetTokenAccountBalance, IsTokenApproved, IsTokenCompliant}
 use Rattle.fields.specs.Rules.{pick}
 
 -- the operations by their numbers, from 2 on; l is the image, r the record
@@ -57,6 +59,14 @@ outcome_at o row (next ∷ rows) = pick (eqb o row.0) row.1 (outcome_at o next r
 
 unfoldable pub outcome_of : List ℕ → List ℕ → Outcome
 outcome_of l r = outcome_at (operation_of r) (1, initialize l r) (operations l r)
+
+-- the views by their names; t is the token and a the account that some of them read
+abbrev pub view_outcome : View → List ℕ → ℕ → ℕ → Outcome
+view_outcome Balance l t a = balance_outcome l
+view_outcome EffectiveWithdrawLimit l t a = effective_outcome l a
+view_outcome GetTokenAccountBalance l t a = account_outcome l t a
+view_outcome IsTokenApproved l t a = approved_outcome l t
+view_outcome IsTokenCompliant l t a = compliant_outcome l t
 
 -- 0 done, and the refusals that are an operation's own
 abbrev pub is_own : ℕ → Bool

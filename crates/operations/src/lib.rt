@@ -1,15 +1,14 @@
 // The operations by their names: `operate` for those that may change the image, `look` for the views.
-#![tactic(auto)]
+#![tactic(auto, unfolding(crate::specs::Operations::outcome_of, record::specs::Form::reads_caller, record::specs::Form::reads_token, record::specs::Form::reads_other, record::specs::Form::reads_flag, record::specs::Form::reads_items, record::specs::Form::member), using(record::specs::Head::head_caller, record::specs::Head::head_token, record::specs::Head::head_other, record::specs::Head::head_flag, record::specs::Head::head_count, record::specs::Head::head_item, crate::specs::Laws::view_does))]
 
-ghost use Rattle.std.specs.Prelude.{◌≡◌, [], List, ℕ};
+ghost use Rattle.std.specs.Prelude.{◌≡◌, ◌<◌, true, []};
 ghost use Rattle.storage.specs.Facts.{Good};
-ghost use Rattle.record.specs.Record.{operation_of};
-ghost use Rattle.record.specs.Form.{form_number};
+ghost use Rattle.record.specs.Form.{form_number, reads_caller, reads_token};
 ghost use Rattle.record.specs.Head.{HeadOf};
 ghost use Rattle.record.specs.Views.{view_number};
 ghost use Rattle.events.specs.Event.{event_buffer};
 ghost use Rattle.outcome.specs.Outcome.{Does, Views};
-ghost use Rattle.operations.specs.Operations.{outcome_of};
+ghost use Rattle.operations.specs.Operations.{outcome_of, view_outcome};
 
 use events::Buffer;
 use image::Image;
@@ -61,9 +60,8 @@ pub fn operate(img: &mut Image, rec: &Record, head: Head, events: &mut Buffer) -
 }
 
 pub fn look(img: &Image, view: View, head: Head) -> Answer
-    ghost rec: { List ℕ }
-    requires { Good img.now × (form_number rec ≡ 0) × HeadOf rec head × (view_number view ≡ operation_of rec) }
-    ensures { Views (outcome_of img.now rec) result }
+    requires { Good img.now × (reads_token (view_number view) ≡ true → head.token < 64) × (reads_caller (view_number view) ≡ true → head.caller < 64) }
+    ensures { Views (view_outcome view img.now head.token head.caller) result }
 {
     match view {
         View::Balance => views::balance(img),

@@ -1,8 +1,8 @@
 -- The parts of a call put together: one lemma for each way out of the public functions.
 use mathlib.Core.Path.{◌≡◌, refl, sym, ap, ◌∙◌}
-use mathlib.Core.Bool.{Bool, true, false}
+use mathlib.Core.Bool.{Bool, true, false, not}
 use mathlib.Core.List.{List, []}
-use Prim.Native.Nat.{ℕ, zero, suc, ◌+◌}
+use Prim.Native.Nat.{ℕ, zero, suc, ◌+◌, ◌<◌}
 use native.Mathlib.Nat.{add-zero}
 use native.Mathlib.Decide.{ℕ_discrete}
 use native.Mathlib.Omega.{arith}
@@ -15,20 +15,25 @@ use Rattle.refusal.specs.declared.Refusal.{Refusal}
 use Rattle.refusal.specs.Numbers.{number_of, code}
 use Rattle.refusal.specs.Numbers.{number_of}
 use Rattle.refusal.specs.Laws.{some_number}
-use Rattle.outcome.specs.declared.Done.{Done as Made}
-use Rattle.journal.specs.Parts.{Enters}
 use Rattle.journal.specs.Step.{vault, reply, blank, lent, operated, begun, committed, rolled_back, undone, step}
 use Rattle.outcome.specs.Outcome.{Answer, value_of, count_of, Does, Views}
 use Rattle.events.specs.Event.{event_buffer, buffer_number}
 use Rattle.events.specs.Buffer.{buffer_none}
-use Rattle.record.specs.Form.{is_view, form_number}
+use Rattle.record.specs.Form.{is_view, form_number, reads_token, reads_caller}
+use Rattle.record.specs.Head.{HeadOf, view_is_view, other_is_no_view, head_token, head_caller}
+use Rattle.record.specs.Views.{view_number}
+use Rattle.record.specs.declared.Head.{Head}
+use Rattle.record.specs.declared.operation.Operation.TheVariants.{View}
 use Rattle.record.specs.Record.{operation_of}
 use Rattle.image.specs.Layout.{cells}
 use Rattle.image.specs.Good.{good_image}
 use Rattle.amount.specs.Biased.{bias}
 use Rattle.fields.specs.Rules.{pick, link_at_lem}
-use Rattle.operations.specs.Operations.{outcome_of}
+use Rattle.operations.specs.Operations.{outcome_of, view_outcome}
+use Rattle.operations.specs.Laws.{viewed}
 use Rattle.operations.proofs.Silent.{view_silent}
+use Rattle.std.specs.Result.{is_err}
+use Rattle.token_vault.proofs.Accepted.{form_zero}
 use Rattle.token_vault.specs.Public.{CallIs, CallAlone, JournalIs, Replies, Answers, Tries, state_number, kept_number, kept_image, kept_journal, Keeps}
 use Rattle.token_vault.specs.Vault.{call_number, by_number, by_form, op, view, vault_step}
 
@@ -42,22 +47,6 @@ pub form_passed : (r e : List ℕ) {j k : ℕ} → j ≡ form_number r → j ≡
 unfolding call_number
 form_passed r e p y q z = sym (link_at_lem _ 2 0 (sym p ∙ y, (sym q ∙ z, tt)) refl)
 
-pub form_refused : (r e : List ℕ) {j : ℕ} → j ≡ form_number r → (j ≡ 0 → ⊥) → j ≡ call_number r e
-unfolding call_number
-form_refused r e p z = link_at_lem _ 0 _ (omega arith) p
-
-buffer_refused : (r e : List ℕ) {j k : ℕ} → j ≡ form_number r → j ≡ 0 → k ≡ buffer_number e → (k ≡ 0 → ⊥) → k ≡ call_number r e
-unfolding call_number
-buffer_refused r e p y q z = link_at_lem _ 1 _ (omega arith) q
-
--- where 32 is not answered 33 decides
-pub buffer_decides : (r e : List ℕ) {j k : ℕ} → j ≡ form_number r → j ≡ 0 → k ≡ buffer_number e → k ≡ call_number r e
-buffer_decides r e {j} {k} p y q = go (ℕ_discrete k 0)
-  where
-    go : Dec (k ≡ 0) → k ≡ call_number r e
-    go (yes z) = z ∙ sym (form_passed r e p y q z)
-    go (no n) = buffer_refused r e p y q n
-
 pub malformed : (l r e : List ℕ) {k : ℕ} → k ≡ call_number r e → (k ≡ 0 → ⊥) → (op l r e).answer ≡ record { number = k; value = 0; count = 0; events = e }
 unfolding op
 malformed l r e {k} p z = go (call_number r e) refl
@@ -66,9 +55,17 @@ malformed l r e {k} p z = go (call_number r e) refl
     go zero q = absurd (z (p ∙ q))
     go (suc n) q = rw (p, q)
 
--- whether it is a view, from what the two tests say
-pub view_decided : (r : List ℕ) {o : ℕ} {b t : Bool} → o ≡ operation_of r → b ≡ is_view o → b ≡ t → is_view (operation_of r) ≡ t
-view_decided r p q z = sym (ap is_view p) ∙ (sym q ∙ z)
+-- whether it is a view, from the head
+pub head_view : (r : List ℕ) (h : Head) (v : _) → HeadOf r h → h.operation ≡ View v → is_view (operation_of r) ≡ true
+head_view r h v f e = rw (← f.operation, e) (view_is_view v)
+
+pub head_no_view : (r : List ℕ) (h : Head) → HeadOf r h → ((v : _) → h.operation ≡ View v → ⊥) → is_view (operation_of r) ≡ false
+head_no_view r h f n = rw (← f.operation) (other_is_no_view h.operation n)
+
+-- what `look` asks of the token and the account
+pub head_fields : (r e : List ℕ) (h : Head) (v : _) → 0 ≡ call_number r e → HeadOf r h → h.operation ≡ View v
+    → (reads_token (view_number v) ≡ true → h.token < 64) × (reads_caller (view_number v) ≡ true → h.caller < 64)
+head_fields r e h v z f i = let y = form_zero r e (sym z) in (head_token r h (View v) y f i, head_caller r h (View v) y f i)
 
 -- ---- the operation's own number
 module _ (l r e : List ℕ) (z : call_number r e ≡ 0) where
@@ -101,34 +98,33 @@ module _ (l r e : List ℕ) (z : call_number r e ≡ 0) where
   own_image q = rw (op_is, q)
 
 -- a view's answer
-pub looked : (l r e : List ℕ) (a : Answer) {v : List ℕ} → call_number r e ≡ 0 → is_view (operation_of r) ≡ true → Views (outcome_of l r) a → v ≡ event_buffer [] → Answers (op l r e).answer a v
-looked l r e (Err k) z i d w = own_refused l r e z d.numbered (some_number k) (refl, refl, refl) w
-looked l r e (Ok m) z i d w =
-    let s = view_silent l r i in
-    own_done l r e z (sym d.numbered) d.numbered d.valued (d.counted ∙ sym (ap length s)) (w ∙ sym (ap event_buffer s))
+pub looked : (l r e : List ℕ) (h : Head) (v : _) (a : Answer) {w : List ℕ} → call_number r e ≡ 0 → HeadOf r h → h.operation ≡ View v → Views (view_outcome v l h.token h.caller) a → w ≡ event_buffer []
+    → Answers (op l r e).answer a w
+looked l r e h v a {w} z f i d q = go a (rw (viewed l r h v f i) at d)
+  where
+    go : (a : Answer) → Views (outcome_of l r) a → Answers (op l r e).answer a w
+    go (Err k) d = own_refused l r e z d.numbered (some_number k) (refl, refl, refl) q
+    go (Ok m) d =
+        let s = view_silent l r (head_view r h v f i) in
+        own_done l r e z (sym d.numbered) d.numbered d.valued (d.counted ∙ sym (ap length s)) (q ∙ sym (ap event_buffer s))
 
 -- an operation's, on a copy of the image
-pub tried : (l r e : List ℕ) {d : Made} {m v : List ℕ} → call_number r e ≡ 0 → Does (outcome_of l r) (Ok d) m v → Tries (op l r e) (Ok d) m v
-tried l r e z d =
-    let q = sym d.numbered in
-    record { answered = own_done l r e z q d.numbered d.valued d.counted (d.written q); changed = λ y. d.changed q ∙ sym (own_image l r e z q) }
+module _ (l r e : List ℕ) (z : call_number r e ≡ 0) where
+  pub tried : (a : Answer) {m v : List ℕ} → is_err a ≡ false → Does (outcome_of l r) a m v → Tries (op l r e) a m v
+  tried (Ok x) t d =
+      let q = sym d.numbered in
+      record { answered = own_done l r e z q d.numbered d.valued d.counted (d.written q); changed = λ y. d.changed q ∙ sym (own_image l r e z q) }
+  tried (Err k) t d = absurd (let w : ◌≡◌ {A = ℕ} 0 1 = cc in omega arith)
 
-pub tried_refused : (l r e : List ℕ) {k : Refusal} {m v w : List ℕ} → call_number r e ≡ 0 → Does (outcome_of l r) (Err k) m w → v ≡ event_buffer [] → Tries (op l r e) (Err k) m v
-tried_refused l r e {k} z d y =
-    record { answered = own_refused l r e z d.numbered (some_number k) (refl, refl, refl) y; changed = λ f. absurd (some_number k (d.numbered ∙ (sym (own_number l r e z) ∙ f))) }
+  pub tried_refused : (a : Answer) {m v w : List ℕ} → is_err a ≡ true → Does (outcome_of l r) a m w → v ≡ event_buffer [] → Tries (op l r e) a m v
+  tried_refused (Ok x) t d y = absurd (let w : ◌≡◌ {A = ℕ} 0 1 = cc in omega arith)
+  tried_refused (Err k) t d y =
+      record { answered = own_refused l r e z d.numbered (some_number k) (refl, refl, refl) y; changed = λ f. absurd (some_number k (d.numbered ∙ (sym (own_number l r e z) ∙ f))) }
 
 -- ---- entering an accepted operation
 module _ (l m j : List ℕ) where
   abbrev Entered : ℕ → List ℕ → Type 0
   Entered n y = (n ≡ kept_number l m j) × (y ≡ kept_journal l m j)
-
-  pub entered_open : {n : ℕ} {y : List ℕ} → (contents_of j).opened ≡ true → Enters cells l m j n y → Entered n y
-  unfolding kept_number kept_journal
-  entered_open o e = (rw o e.fitted, rw o e.written)
-
-  pub entered-none : (contents_of j).opened ≡ false → Entered 0 j
-  unfolding kept_number kept_journal
-  entered-none o = (rw o, rw o)
 
   -- the image moves exactly where the number is 0
   pub keeps : {k : ℕ} {x y : List ℕ} → Entered k y → (k ≡ 0 → x ≡ m) → ((k ≡ 0 → ⊥) → x ≡ l) → Keeps l m j k x y
@@ -182,31 +178,14 @@ pub stops : {s : Step} {a : Answer} {l j v : List ℕ} (k : ℕ) (e : List ℕ) 
 stops k e p d w = replies p (stopped k e refl d w)
 
 -- ---- the steps of this vault: 30 and 31 first
-pub state_30 : (b : Bool) (j : List ℕ) → b ≡ false → 30 ≡ state_number b j
-unfolding state_number
-state_30 b j g = rw g
-
-pub state_31 : (b : Bool) (j : List ℕ) → b ≡ true → good_journal cells j ≡ false → 31 ≡ state_number b j
-unfolding state_number
-state_31 b j g h = rw (g, h)
-
-pub state_0 : (b : Bool) (j : List ℕ) → b ≡ true → good_journal cells j ≡ true → 0 ≡ state_number b j
-unfolding state_number
-state_0 b j g h = rw (g, h)
-
 -- what the test of 30 says
-pub good_pick : (b : Bool) → ◌≡◌ {A = ℕ} 0 (pick b 0 30) → b ≡ true
+pub good_pick : (b : Bool) → ◌≡◌ {A = ℕ} 0 (pick (not b) 30 0) → b ≡ true
 good_pick true e = refl
 good_pick false e = absurd (omega arith)
 
-pub bad_pick : (b : Bool) (e : Refusal) → number_of e ≡ pick b 0 30 → (b ≡ false) × (number_of e ≡ 30)
+pub bad_pick : (b : Bool) (e : Refusal) → number_of e ≡ pick (not b) 30 0 → (b ≡ false) × (number_of e ≡ 30)
 bad_pick true e h = absurd (some_number e h)
 bad_pick false e h = (refl, h)
-
-pub good_30 : (b : Bool) (j : List ℕ) (e : Refusal) → number_of e ≡ pick b 0 30 → number_of e ≡ state_number b j
-unfolding state_number
-good_30 true j e h = absurd (some_number e h)
-good_30 false j e h = h
 
 module _ (l j : List ℕ) {b : Bool} {k : ℕ} (g : b ≡ good_image l) (p : k ≡ state_number b j) where
   pub good_state : k ≡ 0 → (good_image l ≡ true) × (good_journal cells j ≡ true)
@@ -241,9 +220,9 @@ module _ (l j r e : List ℕ) where
         let m = malformed l r e p n in
         steps ∙ (operated-refused cells (vault l j) (op l r e) (view r) (λ z. n (sym (ap (λ (d : Rattle.journal.specs.Calls.Answer). d.number) m) ∙ z)) ∙ (λ t. record { answer = m t; state = vault l j }))
 
-    pub viewed : is_view (operation_of r) ≡ true → vault_step (vault l j) (operation r e) ≡ record { answer = (op l r e).answer; state = vault l j }
+    pub view_step : is_view (operation_of r) ≡ true → vault_step (vault l j) (operation r e) ≡ record { answer = (op l r e).answer; state = vault l j }
     unfolding view
-    viewed v = steps ∙ (ap (λ (b : Bool). operated cells b (vault l j) (op l r e)) v ∙ go (ℕ_discrete (op l r e).answer.number 0))
+    view_step v = steps ∙ (ap (λ (b : Bool). operated cells b (vault l j) (op l r e)) v ∙ go (ℕ_discrete (op l r e).answer.number 0))
       where
         go : Dec ((op l r e).answer.number ≡ 0) → operated cells true (vault l j) (op l r e) ≡ record { answer = (op l r e).answer; state = vault l j }
         go (yes z) = operated-view cells (vault l j) (op l r e) z

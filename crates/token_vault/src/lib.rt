@@ -1,15 +1,17 @@
 // The token vault: its public calls. Any bytes of any length get an answer.
-#![tactic(auto)]
+#![tactic(auto, unfolding(fields::specs::Rules::chain, fields::specs::Rules::or_else, crate::specs::Public::state_number, crate::specs::Public::kept_number, crate::specs::Public::kept_image, crate::specs::Public::kept_journal, crate::specs::Vault::call_number))]
 
-ghost use Rattle.std.specs.Prelude.{◌≡◌, true, false, IfOk, List, ℕ};
+ghost use Rattle.std.specs.Prelude.{◌≡◌, ◌<◌, true, false, [], IfOk};
 ghost use Rattle.amount.specs.Biased.{biased};
+ghost use Rattle.events.specs.Event.{event_buffer};
 ghost use Rattle.events.specs.Splice.{amount_bytes};
 ghost use Rattle.image.specs.Layout.{cells};
-ghost use Rattle.outcome.specs.Outcome.{value_of, count_of};
+ghost use Rattle.outcome.specs.Outcome.{Views, value_of, count_of};
 ghost use Rattle.storage.specs.Facts.{Good};
-ghost use Rattle.record.specs.Record.{operation_of};
+ghost use Rattle.record.specs.Form.{reads_caller, reads_token};
 ghost use Rattle.record.specs.Head.{HeadOf};
 ghost use Rattle.record.specs.Views.{view_number};
+ghost use Rattle.operations.specs.Operations.{view_outcome};
 ghost use Rattle.journal.specs.Calls.{Call};
 ghost use Rattle.journal.specs.Journal.{good_journal};
 ghost use Rattle.journal.specs.Step.{vault, operated};
@@ -46,11 +48,10 @@ fn write_answer(answer: Answer, value: &mut [u8; 16], event_count: &mut u32) -> 
     refusal::number(&answer)
 }
 
-// A view on good bytes: the event buffer is blank.
+// A view of a good image, with the token and the account of a record: the event buffer is blank.
 fn run_view(image: &Image, view: View, head: Head, events: &mut Buffer) -> Answer
-    ghost rec: { List ℕ }
-    requires { Good image.now × (call_number rec events.old ≡ 0) × HeadOf rec head × (view_number view ≡ operation_of rec) }
-    ensures { Answers (op image.now rec events.old).answer result events.new }
+    requires { Good image.now × (reads_token (view_number view) ≡ true → head.token < 64) × (reads_caller (view_number view) ≡ true → head.caller < 64) }
+    ensures { Views (view_outcome view image.now head.token head.caller) result × (events.new ≡ event_buffer []) }
 {
     events::clear_events(events);
     operations::look(image, view, head)
@@ -114,7 +115,10 @@ fn state_check(is_image_good: bool, journal: &[u8]) -> Result<(), Refusal>
     ensures { code result ≡ state_number is_image_good journal.now }
 {
     refusal::refuse_if(!is_image_good, Refusal::InvalidImage)?;
-    refusal::refuse_if(!journal::good_journal(journal, CELLS), Refusal::InvalidJournal)
+    refusal::refuse_if(
+        !journal::good_journal(journal, CELLS),
+        Refusal::InvalidJournal,
+    )
 }
 
 // 32, 33.
@@ -133,12 +137,12 @@ fn answer_call(image: &mut [u8], journal: &mut [u8], rec: &[u8], events: &mut [u
     let is_image_good = image::good_image(image);
     state_check(is_image_good, journal)?;
     let head = call_check(rec, events)?;
-    let image: &mut Image = image.try_into().unwrap();
-    let events: &mut Buffer = events.try_into().unwrap();
+    let image: &mut Image = image.as_mut_array().unwrap();
+    let events: &mut Buffer = events.as_mut_array().unwrap();
     if let Operation::View(view) = head.operation {
         return run_view(image, view, head, events);
     }
-    let rec: &Record = rec.try_into().unwrap();
+    let rec: &Record = rec.as_array().unwrap();
     run_operation(image, journal, rec, head, events)
 }
 
@@ -185,12 +189,12 @@ fn answer_preview(image: &[u8], rec: &[u8], events: &mut [u8]) -> Answer
 {
     refusal::refuse_if(!image::good_image(image), Refusal::InvalidImage)?;
     let head = call_check(rec, events)?;
-    let image: &Image = image.try_into().unwrap();
-    let events: &mut Buffer = events.try_into().unwrap();
+    let image: &Image = image.as_array().unwrap();
+    let events: &mut Buffer = events.as_mut_array().unwrap();
     if let Operation::View(view) = head.operation {
         return run_view(image, view, head, events);
     }
-    let rec: &Record = rec.try_into().unwrap();
+    let rec: &Record = rec.as_array().unwrap();
     preview_operation(image, rec, head, events)
 }
 

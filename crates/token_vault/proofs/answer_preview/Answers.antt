@@ -1,36 +1,63 @@
 -- `token_vault::answer_preview` meets its contract.
+use mathlib.Core.Path.{refl, sym, ◌∙◌}
 use Rattle.storage.specs.Facts.{facts}
-use Rattle.token_vault.proofs.Previewed.{preview_good, preview_30, preview_malformed}
-use Rattle.token_vault.proofs.Called.{view_decided, stopped}
-use Rattle.token_vault.proofs.Accepted.{call_long}
 use Rattle.refusal.specs.Laws.{some_number}
 use Rattle.outcome.specs.Outcome.{silent}
-use mathlib.Core.Path.{refl, sym, ◌∙◌}
-use Rattle.token_vault.proofs.Called.{good_pick, bad_pick}
+use Rattle.token_vault.proofs.Previewed.{preview_good, preview_30, preview_malformed}
+use Rattle.token_vault.proofs.Called.{good_pick, bad_pick, stopped, looked, head_fields}
+use Rattle.token_vault.proofs.Accepted.{call_long}
 use Rattle.token_vault.proofs.answer_preview.Goals as goal
 
-pub returns-in_err-image_check : goal.returns-in_err-image_check
-returns-in_err-image_check c =
+pub returns-in_err-refuse_if : goal.returns-in_err-refuse_if
+returns-in_err-refuse_if c =
     let x = c.args in
-    let (f, n) = bad_pick _ _ c.in_err-image_check.ensures in
+    let (f, n) = bad_pick _ _ c.in_err-refuse_if.ensures in
     stopped 30 _ (preview_30 x.image.now x.rec.now x.events.now (sym c.good_image.ensures ∙ f)) (let s = silent _ _ c.from_residual.ensures in (s.0 ∙ n, s.1, s.2)) refl
 
-pub returns-in_err-call_check : goal.returns-in_err-call_check
-returns-in_err-call_check c =
+pub returns-in_err-head : goal.returns-in_err-head
+returns-in_err-head c =
     let x = c.args in
-    stopped _ _ (preview_malformed x.image.now x.rec.now x.events.now (sym c.good_image.ensures ∙ good_pick _ c.in_ok-image_check.ensures) c.in_err-call_check.ensures (some_number _)) (silent _ _ c.from_residual-in_err-call_check.ensures) refl
+    stopped _ _ (preview_malformed x.image.now x.rec.now x.events.now (sym c.good_image.ensures ∙ good_pick _ c.in_ok-refuse_if.ensures) c.in_err-head.ensures.number (some_number _)) (silent _ _ c.from_residual-in_err-head.ensures) refl
 
-pub operation-o-requires : goal.operation-o-requires
-operation-o-requires c = (call_long _ _ (sym c.in_ok-call_check.ensures)).0
+pub unwrap-image-requires : goal.unwrap-image-requires
+unwrap-image-requires c = c.as_array.ensures.variant.1 (facts _ (sym c.good_image.ensures ∙ good_pick _ c.in_ok-refuse_if.ensures)).long
+
+pub unwrap-events-requires : goal.unwrap-events-requires
+unwrap-events-requires c = c.as_mut_array.ensures.variant.1 (call_long _ _ (sym c.in_ok-head.ensures.number)).1
 
 pub run_view-requires : goal.run_view-requires
-run_view-requires c = let z = sym c.in_ok-call_check.ensures in (facts _ (sym c.good_image.ensures ∙ good_pick _ c.in_ok-image_check.ensures), z, view_decided _ c.operation-o.ensures c.is_view.ensures c.if-is_view.true, (call_long _ _ z).0, (call_long _ _ z).1)
+run_view-requires c =
+    let x = c.args in
+    let i = rw c.unwrap-image.ensures at c.as_array.ensures in
+    let h = c.in_ok-head.ensures in
+    let f = head_fields x.rec.now x.events.now _ c.in-View.view h.number h.head c.in-View.is in
+    (rw i.cases.same (facts _ (sym c.good_image.ensures ∙ good_pick _ c.in_ok-refuse_if.ensures)), f.0, f.1)
 
-pub returns-then-is_view : goal.returns-then-is_view
-returns-then-is_view c = let x = c.args in rw (preview_good x.image.now x.rec.now x.events.now (sym c.good_image.ensures ∙ good_pick _ c.in_ok-image_check.ensures)) c.run_view.ensures
+pub returns-in-View : goal.returns-in-View
+returns-in-View c =
+    let x = c.args in
+    let i = rw c.unwrap-image.ensures at c.as_array.ensures in
+    let h = c.in_ok-head.ensures in
+    let w = rw i.cases.same at c.run_view.ensures in
+    rw (preview_good x.image.now x.rec.now x.events.now (sym c.good_image.ensures ∙ good_pick _ c.in_ok-refuse_if.ensures))
+    (looked x.image.now x.rec.now x.events.now c.in_ok-head.head c.in-View.view _ (sym h.number) h.head c.in-View.is w.0 w.1)
+
+pub unwrap-rec-requires : goal.unwrap-rec-requires
+unwrap-rec-requires c = c.as_array-2.ensures.variant.1 (call_long _ _ (sym c.in_ok-head.ensures.number)).0
 
 pub preview_operation-requires : goal.preview_operation-requires
-preview_operation-requires c = let z = sym c.in_ok-call_check.ensures in (facts _ (sym c.good_image.ensures ∙ good_pick _ c.in_ok-image_check.ensures), z, view_decided _ c.operation-o.ensures c.is_view.ensures c.if-is_view.false, (call_long _ _ z).0, (call_long _ _ z).1)
+preview_operation-requires c =
+    let i = rw c.unwrap-image.ensures at c.as_array.ensures in
+    let e = rw c.unwrap-events.ensures at c.as_mut_array.ensures in
+    let r = rw c.unwrap-rec.ensures at c.as_array-2.ensures in
+    rw (i.cases.same, e.cases.same, r.cases.same)
+    (facts _ (sym c.good_image.ensures ∙ good_pick _ c.in_ok-refuse_if.ensures), sym c.in_ok-head.ensures.number, c.in_ok-head.ensures.head)
 
 pub returns : goal.returns
-returns c = let x = c.args in rw (preview_good x.image.now x.rec.now x.events.now (sym c.good_image.ensures ∙ good_pick _ c.in_ok-image_check.ensures)) c.preview_operation.ensures
+returns c =
+    let x = c.args in
+    let i = rw c.unwrap-image.ensures at c.as_array.ensures in
+    let e = rw c.unwrap-events.ensures at c.as_mut_array.ensures in
+    let r = rw c.unwrap-rec.ensures at c.as_array-2.ensures in
+    rw (preview_good x.image.now x.rec.now x.events.now (sym c.good_image.ensures ∙ good_pick _ c.in_ok-refuse_if.ensures))
+    (rw (i.cases.same, e.cases.same, r.cases.same) at c.preview_operation.ensures)
