@@ -44,9 +44,6 @@ checks_passed l t caller signers seq n g p e z =
       sum = funding_free l (default_token l) seq n refl u.1.1.1.0;
     })
 
-pub present : (l : List ℕ) (t : ℕ) {k : ℕ} → k ≡ absent_number l t → k ≡ 0 → (48 ≤ t) × (t < 64)
-present l t e z = let (low, (high, _)) = absent_free l t e z in (low, high)
-
 -- a transfer that does not fail, and the vault's holding as expected after it
 module _ (l : List ℕ) (t from n : ℕ) where
   pub receive_free : {k : ℕ} → k ≡ receive_number l t from n → k ≡ 0 → AllFail (transfer_rules l t from 1 n) × (deposit_holding l t from n ≡ expected_holding l t n)

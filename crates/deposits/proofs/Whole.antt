@@ -55,22 +55,14 @@ module _ (l : List ℕ) (t from seq n : ℕ) {y m : List ℕ} (q : y ≡ transfe
   unfolding deposit_token_image
   token_image d = rw q at d
 
--- ---- operations 2 and 9: the checks passed, and t is the default token
+-- ---- operation 2: the checks passed, and t is the default token
 module _ (l : List ℕ) (caller signers seq n : ℕ) {a : Result Done Refusal} {m w : List ℕ} (t : ℕ) (p : t ≡ default_token l) (z : 0 ≡ deposit_checks l caller signers seq n) where
   pub deposit_passed : Does (deposited_outcome (receive_number l t caller n) 0 l t caller n (deposit_image l t caller seq n)) a m w → Does (deposit_outcome l caller signers seq n) a m w
   unfolding deposit_outcome
   deposit_passed d = checks_pass _ _ z (rw p at d)
 
-  pub report_passed : Does (report_outcome l t caller seq n) a m w → Does (failure_report_outcome l caller signers seq n) a m w
-  unfolding failure_report_outcome
-  report_passed d = checks_pass _ _ z (rw p at d)
-
 -- ---- operation 3: the checks of gross and fee passed; m and v are image and events after `deposit` of the net
 module _ (l : List ℕ) (caller signers seq gross fee : ℕ) {m v : List ℕ} (z : 0 ≡ gross_number gross fee) where
-  pub net-refused : (e : Refusal) {a : Result Done Refusal} → Does (deposit_outcome l caller signers seq (net_of gross fee)) (Err e) m v → Refuses a e → Does (deposit_with_fee_outcome l caller signers seq gross fee) a m v
-  unfolding deposit_with_fee_outcome
-  net-refused e d r = checks_pass _ _ z (refused e r d.numbered)
-
   pub net-deposited : {b d : Done} {w : List ℕ} → Does (deposit_outcome l caller signers seq (net_of gross fee)) (Ok b) m v → w ≡ put_event v 1 (token_deposited_event caller gross fee (net_of gross fee))
       → (biased d.value ≡ bias) × (d.events ≡ 2) → Does (deposit_with_fee_outcome l caller signers seq gross fee) (Ok d) m w
   unfolding deposit_with_fee_outcome deposit_outcome

@@ -2,26 +2,17 @@
 use Rattle.deposits.proofs.Whole.{deposited, token_image}
 use mathlib.Core.Path.{sym, ◌∙◌}
 use Rattle.deposits.specs.TokenDeposit.{deposit_token_outcome}
-use Rattle.outcome.specs.Checked.{checks_refuse, checks_pass}
-use Rattle.outcome.specs.Outcome.{refused}
+use Rattle.outcome.specs.Checked.{checks_pass}
 use Rattle.amount.specs.Biased.{bias, biased}
 use native.Mathlib.Nat.{add-zero}
 use Rattle.deposits.proofs.deposit_token.Goals as goal
-
-pub returns-in_err-token_checks : goal.returns-in_err-token_checks
-unfolding deposit_token_outcome
-returns-in_err-token_checks c = checks_refuse _ _ _ c.in_err-token_checks.ensures c.from_residual.ensures
-
-pub returns-in_err-receive_token : goal.returns-in_err-receive_token
-unfolding deposit_token_outcome
-returns-in_err-receive_token c = checks_pass _ _ c.in_ok-token_checks.ensures (refused _ c.from_residual-in_err-receive_token.ensures (rw c.from-t.ensures at c.in_err-receive_token.ensures.value))
 
 pub returns : goal.returns
 unfolding deposit_token_outcome
 returns c =
     let x = c.args in
     let h = x.head in
-    let y = rw c.from-t.ensures at c.in_ok-receive_token.ensures in
-    let s = rw c.from-t.ensures at c.settle_token.ensures in
+    let y = rw c.in_ok-token.ensures.token at c.in_ok-receive_token.ensures in
+    let s = rw c.in_ok-token.ensures.token at c.settle_token.ensures in
     let d = c.new.ensures in
-    checks_pass _ _ c.in_ok-token_checks.ensures (deposited _ 0 x.img.now _ h.caller (biased h.amount) x.events.now (sym y.value) y.img_after c.requires.2 (token_image x.img.now _ h.caller h.sequence (biased h.amount) y.img_after s.img_after) s.events_after (d.0 ∙ sym (add-zero bias)) d.1)
+    checks_pass _ _ c.in_ok-token.ensures.number (deposited _ 0 x.img.now _ h.caller (biased h.amount) x.events.now (sym y.value) y.img_after c.requires.2 (token_image x.img.now _ h.caller h.sequence (biased h.amount) y.img_after s.img_after) s.events_after (d.0 ∙ sym (add-zero bias)) d.1)
