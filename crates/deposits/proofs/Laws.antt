@@ -3,7 +3,7 @@ use Rattle.std.specs.Prelude.{◌≡◌, List, ℕ, ◌+◌, ◌≤◌, ◌<◌}
 use Rattle.std.proofs.Math.Path.{refl, sym}
 use Rattle.std.proofs.Common.{◌∙◌}
 use Rattle.checks.specs.Passed.{deposit_amount_free, limit_free, shared_free}
-use Rattle.token.specs.Token.{absent_number, transfer_rules, transfer_number, transfer_of}
+use Rattle.token.specs.Token.{transfer_rules, transfer_number, transfer_of}
 use Rattle.token.specs.Laws.{absent_free, transfer_free}
 use Rattle.storage.specs.Facts.{Good}
 use Rattle.storage.specs.Writes.{default_range}

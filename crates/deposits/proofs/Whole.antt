@@ -1,5 +1,5 @@
 -- Whole deposits, from what their parts say.
-use Rattle.std.specs.Prelude.{Result, Ok, Err}
+use Rattle.std.specs.Prelude.{Result, Ok}
 use mathlib.Core.Path.{◌≡◌, refl, sym, ◌∙◌}
 use mathlib.Core.List.{List, []}
 use Prim.Native.Nat.{ℕ, ◌+◌, ◌≤◌, ◌<◌}
@@ -8,7 +8,7 @@ use native.Mathlib.Omega.{arith}
 use borrow.Author.Tests.{eq-eqb, ne_eqb}
 use Rattle.refusal.specs.declared.Refusal.{Refusal}
 use Rattle.outcome.specs.declared.Done.{Done}
-use Rattle.outcome.specs.Outcome.{Does, Refuses, refused, accepted, Announced, announced}
+use Rattle.outcome.specs.Outcome.{Does, accepted, Announced, announced}
 use Rattle.outcome.specs.Checked.{checks_pass}
 use Rattle.events.specs.Kinds.{deposited_event, token_deposited_event, vault_deposit_failed_event}
 use Rattle.events.specs.Event.{put_event, event_buffer}
@@ -22,7 +22,7 @@ use Rattle.storage.specs.Setters.{record_balance}
 use Rattle.image.specs.Layout.{slot, default_token, holding}
 use Rattle.amount.specs.Biased.{bias, biased}
 use Rattle.deposits.specs.Deposit.{receive_number, add_credit, deposit_image, deposit_checks, deposited_outcome, deposit_outcome, gross_number, net_of, deposit_with_fee_outcome}
-use Rattle.deposits.specs.Report.{settled_report, report_outcome, failure_report_outcome}
+use Rattle.deposits.specs.Report.{settled_report, report_outcome}
 use Rattle.deposits.specs.TokenDeposit.{receive_token_number, deposit_token_image}
 use Rattle.deposits.proofs.Laws.{receive_free, receive_token_free}
 

@@ -34,7 +34,7 @@ pub fn funding_check(img: &Image, token: Token, sequence: u32, n: Amount) -> Res
 }
 
 // The sum, or 7 where it passes 2 ^ 127 - 1.
-#[tactic(auto, using(crate::proofs::Steps::summed))]
+#[tactic(auto, using(crate::proofs::Steps::summed_number, crate::proofs::Steps::summed_value))]
 fn checked_sum(a: Amount, n: Amount) -> Result<Amount, Refusal>
     requires { bias ≤ biased n }
     ensures number { code result ≡ overflow_number (biased a) (biased n) }
@@ -44,7 +44,6 @@ fn checked_sum(a: Amount, n: Amount) -> Result<Amount, Refusal>
 }
 
 // 12: the vault's holding is not the one expected.
-#[tactic(auto, unfolding(crate::specs::Deposit::expected_number), using(fields::specs::Rules::only_where, amount::specs::Order::ne_true, amount::specs::Order::ne_false))]
 pub fn expected_check(held: Amount, expected: Amount) -> Result<(), Refusal>
     ensures { code result ≡ expected_number (biased held) (biased expected) }
 {
@@ -52,6 +51,7 @@ pub fn expected_check(held: Amount, expected: Amount) -> Result<(), Refusal>
 }
 
 // 23; 12.
+#[tactic(auto, unfolding(fields::specs::Rules::chain, fields::specs::Rules::or_else, crate::specs::Deposit::receive_number), using(token::specs::Laws::transfer_done, refusal::specs::Laws::on_ok))]
 fn receive(img: &mut Image, token: Token, from: Address, n: Amount) -> Result<(), Refusal>
     requires { Good img.old × (bias ≤ biased n) × (holding img.old (slot token.address) 1 + biased n < bias + bias + bias) }
     ensures value { code result ≡ receive_number img.old token.address from.number (biased n) }
@@ -291,6 +291,7 @@ fn token_checks(img: &Image, head: Head) -> Result<Token, Refusal>
 }
 
 // 23; 7; 12; 7 of the credit.
+#[tactic(auto, unfolding(fields::specs::Rules::chain, fields::specs::Rules::or_else, crate::specs::TokenDeposit::receive_token_number), using(token::specs::Laws::transfer_done, refusal::specs::Laws::on_ok))]
 fn receive_token(img: &mut Image, token: Token, from: Address, n: Amount) -> Result<(), Refusal>
     requires { Good img.old × (bias ≤ biased n) }
     ensures value { code result ≡ receive_token_number img.old token.address from.number (biased n) }
