@@ -8,25 +8,22 @@ use Rattle.amount.specs.Laws.{over_high, valued, sum-biased}
 use Rattle.std.proofs.Common.{Ordering, Less, Equal, Greater}
 use Rattle.std.specs.Int.{w128}
 use Rattle.std.specs.Ordering.{is_lt, is_ge, int_cmp}
-use mathlib.Core.Path.{◌≡◌, refl, sym, ap, ◌∙◌}
+use mathlib.Core.Path.{◌≡◌, refl, ap, ◌∙◌}
 use Prim.Native.Nat.{ℕ, ◌+◌, ◌-◌, ◌≤◌, ◌<◌}
 use native.Mathlib.Omega.{arith}
 use borrow.Author.Tests.{lt-ltb, le-ltb}
-use Rattle.token.specs.Token.{transfer_number, transfer_of, transferred}
-use Rattle.token.specs.Laws.{transfer_done}
 use Rattle.fields.specs.Frame.{under, over}
 use Rattle.storage.specs.Facts.{Keys}
 use Rattle.storage.specs.Kept.{only_record_balance}
 use Rattle.storage.specs.Regions.{same_keys}
 use Rattle.storage.specs.Setters.{set_credit, record_balance}
-use Rattle.image.specs.Layout.{slot, snapshot_at, holding, credit}
+use Rattle.image.specs.Layout.{slot, snapshot_at, credit}
 use Rattle.amount.specs.declared.Amount.{Amount}
 use Rattle.amount.specs.Biased.{bias, biased, in_range}
 use Rattle.amount.specs.Order.{less_is}
 use Rattle.checks.specs.Passed.{not_above}
 use Rattle.fields.specs.Rules.{pick, Guard, test, when, verdict, stop_at}
-use Rattle.deposits.specs.Deposit.{overflow_rules, overflow_number, expected_holding, add_credit}
-use Rattle.deposits.specs.Report.{credited_number}
+use Rattle.deposits.specs.Deposit.{overflow_rules, overflow_number, add_credit}
 
 not_less : (o : Ordering) → is_ge o ≡ not (is_lt o)
 not_less Less = refl
@@ -75,12 +72,3 @@ credit-fits l t a n h = rw (lt-ltb (credit l (slot t) a + n) (bias + bias + bias
 pub credit-kept : (l : List ℕ) (t a n : ℕ) → bias + bias + bias ≤ credit l (slot t) a + n → add_credit l t a n ≡ l
 unfolding add_credit
 credit-kept l t a n h = rw (le-ltb (credit l (slot t) a + n) (bias + bias + bias) h)
-
--- y is the image after the transfer, which gave k
-module _ (l : List ℕ) (t from n : ℕ) {y : List ℕ} {k : ℕ} (a : k ≡ transfer_number l t from 1 n) (b : k ≡ 0) (c : y ≡ transferred l t from 1 n) where
-  pub moved_is : y ≡ transfer_of l t from 1 n
-  moved_is = c ∙ transfer_done l t from 1 n (sym a ∙ b)
-
-  -- o is the vault's holding before it, d the one expected after it
-  pub credited : {o d j : ℕ} → o ≡ holding l (slot t) 1 → d ≡ o + n - bias → j ≡ credited_number y t from d n → j ≡ credited_number (transfer_of l t from 1 n) t from (expected_holding l t n) n
-  credited f g q = rw (moved_is, g, f) at q

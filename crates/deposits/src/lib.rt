@@ -1,7 +1,7 @@
 // Operations 2 `deposit`, 3 `deposit_with_fee`, 7 `deposit_token` and 9 `deposit_with_failure_report` (lib.rs).
-#![tactic(auto, unfolding(fields::specs::Rules::chain, fields::specs::Rules::or_else, crate::specs::Deposit::funding_number, crate::specs::Deposit::gross_number, crate::specs::Deposit::receive_number, crate::specs::Report::credited_number, crate::specs::TokenDeposit::token_cap_number, crate::specs::TokenDeposit::token_funding_number, crate::specs::TokenDeposit::receive_token_number))]
+#![tactic(auto, unfolding(fields::specs::Rules::chain, fields::specs::Rules::or_else, crate::specs::Deposit::funding_number, crate::specs::Deposit::gross_number, crate::specs::Report::credited_number, crate::specs::TokenDeposit::token_cap_number, crate::specs::TokenDeposit::token_funding_number))]
 
-ghost use Rattle.std.specs.Prelude.{IfOk, OnOk, ◌≡◌, [], ◌+◌, ◌-◌, ◌<◌, ◌≤◌};
+ghost use Rattle.std.specs.Prelude.{IfOk, OnOk, ◌≡◌, [], ◌∷◌, ◌+◌, ◌-◌, ◌<◌, ◌≤◌};
 ghost use Rattle.refusal.specs.Numbers.{code};
 ghost use Rattle.amount.specs.Biased.{bias, biased};
 ghost use Rattle.image.specs.Layout.{slot, holding};
@@ -90,6 +90,7 @@ pub fn put_deposited(events: &mut Buffer, i: usize, from: u8, amount: Amount, ne
 }
 
 // What follows the transfer: credit, snapshot and event.
+#[tactic(auto, using(crate::proofs::Whole::written_one))]
 fn settle(
     img: &mut Image,
     token: Token,
@@ -98,9 +99,9 @@ fn settle(
     n: Amount,
     events: &mut Buffer,
 )
-    requires { Keys img.old × (bias ≤ biased n) }
+    requires { Keys img.old × (bias ≤ biased n) × (events.old ≡ event_buffer []) }
     ensures img_after { img.new ≡ record_balance (add_credit img.old token.address from.number (biased n)) token.address sequence (holding img.old (slot token.address) 1) }
-    ensures events_after { events.new ≡ put_event events.old 0 (deposited_event from.number (biased n) (holding img.old (slot token.address) 1)) }
+    ensures events_after { events.new ≡ event_buffer (deposited_event from.number (biased n) (holding img.old (slot token.address) 1) ∷ []) }
 {
     let held = token::balance(img, token, token::VAULT);
     add_credit(img, token, from, n);
@@ -120,7 +121,7 @@ fn deposit_checks(img: &Image, head: Head) -> Result<(), Refusal>
     funding_check(img, token::default_token(img), head.sequence, head.amount)
 }
 
-#[tactic(auto, unfolding(fields::specs::Rules::chain, fields::specs::Rules::or_else, crate::specs::Deposit::deposit_outcome), using(outcome::specs::Outcome::refused, crate::proofs::Laws::checks_passed, crate::proofs::Whole::received_keys))]
+#[tactic(auto, unfolding(fields::specs::Rules::chain, fields::specs::Rules::or_else, crate::specs::Deposit::deposit_outcome, crate::specs::Deposit::deposit_image), using(outcome::specs::Outcome::refused, outcome::specs::Outcome::accepted, crate::proofs::Laws::checks_passed, crate::proofs::Whole::received_keys))]
 pub fn deposit(img: &mut Image, head: Head, events: &mut Buffer) -> Answer
     requires { Good img.old × (head.caller < 64) × (events.old ≡ event_buffer []) }
     ensures { Does (deposit_outcome img.old head.caller head.signers head.sequence (biased head.amount)) result img.new events.new }
@@ -304,7 +305,7 @@ fn receive_token(img: &mut Image, token: Token, from: Address, n: Amount) -> Res
 }
 
 // What follows the transfer: snapshot, credit and event.
-#[tactic(auto, using(crate::proofs::Steps::snapshot_keys))]
+#[tactic(auto, using(crate::proofs::Whole::written_one, crate::proofs::Steps::snapshot_keys))]
 fn settle_token(
     img: &mut Image,
     token: Token,
@@ -313,9 +314,9 @@ fn settle_token(
     n: Amount,
     events: &mut Buffer,
 )
-    requires { Keys img.old × (bias ≤ biased n) }
+    requires { Keys img.old × (bias ≤ biased n) × (events.old ≡ event_buffer []) }
     ensures img_after { img.new ≡ add_credit (record_balance img.old token.address sequence (holding img.old (slot token.address) 1)) token.address from.number (biased n) }
-    ensures events_after { events.new ≡ put_event events.old 0 (deposited_event from.number (biased n) (holding img.old (slot token.address) 1)) }
+    ensures events_after { events.new ≡ event_buffer (deposited_event from.number (biased n) (holding img.old (slot token.address) 1) ∷ []) }
 {
     let held = token::balance(img, token, token::VAULT);
     storage::record_vault_balance(img, token, sequence, held);
@@ -323,7 +324,7 @@ fn settle_token(
     put_deposited(events, 0, from.number, n, held);
 }
 
-#[tactic(auto, unfolding(fields::specs::Rules::chain, fields::specs::Rules::or_else, crate::specs::TokenDeposit::deposit_token_outcome), using(outcome::specs::Outcome::refused, crate::proofs::Laws::token_passed, crate::proofs::Whole::token_keys))]
+#[tactic(auto, unfolding(fields::specs::Rules::chain, fields::specs::Rules::or_else, crate::specs::TokenDeposit::deposit_token_outcome, crate::specs::TokenDeposit::deposit_token_image), using(outcome::specs::Outcome::refused, outcome::specs::Outcome::accepted, crate::proofs::Laws::token_passed, crate::proofs::Whole::token_keys))]
 pub fn deposit_token(img: &mut Image, head: Head, events: &mut Buffer) -> Answer
     requires { Good img.old × (head.caller < 64) × (events.old ≡ event_buffer []) }
     ensures { Does (deposit_token_outcome img.old head.caller head.signers head.sequence head.token (biased head.amount)) result img.new events.new }
