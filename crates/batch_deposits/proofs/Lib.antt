@@ -1,5 +1,4 @@
 -- Lemmas for the functions' proofs.
 pub mod Loops
-pub mod Whole
 pub mod Moved
 pub mod Owed

@@ -1,5 +1,5 @@
 // Operation 4 `batch_deposit` (lib.rs).
-#![tactic(auto)]
+#![tactic(auto, unfolding(fields::specs::Rules::chain, fields::specs::Rules::or_else, crate::specs::Batch::open_number, crate::specs::Batch::item_number))]
 
 ghost use Rattle.std.specs.Prelude.{IfOk, OnOk, ◌≡◌, [], ℕ, ◌+◌, ◌<◌, ◌≤◌};
 ghost use Rattle.refusal.specs.Numbers.{code};
@@ -14,7 +14,7 @@ ghost use Rattle.batch_deposits.specs.Batch.{count_number, open_number, item_num
 
 use amount::Amount;
 use events::Buffer;
-use image::Image;
+use image::{Address, Image, Token};
 use outcome::{Answer, Done};
 use record::{Head, Record};
 use refusal::Refusal;
@@ -60,22 +60,26 @@ fn add_items(rec: &Record, signers: u64, count: usize) -> Result<Amount, Refusal
 }
 
 // One item: its transfer (23), then its event.
+#[tactic(auto, unfolding(fields::specs::Rules::chain, fields::specs::Rules::or_else), using(token::specs::Laws::transfer_done))]
 fn transfer_item(
     img: &mut Image,
     rec: &Record,
-    t: usize,
+    token: Token,
     i: usize,
     events: &mut Buffer,
 ) -> Result<(), Refusal>
-    requires good { Good img.old × (i < 16) × (48 ≤ t) × (t < 64) }
+    requires good { Good img.old × (i < 16) }
     requires i_bound { (item_address rec.now i < 64) × (bias ≤ item_amount rec.now i) }
-    ensures value { code result ≡ transfer_number img.old t (item_address rec.now i) 1 (item_amount rec.now i) }
-    ensures img_after { OnOk result ((img.new ≡ item_transfer img.old rec.now t i) × (events.new ≡ put_event events.old i (item_event img.old rec.now t i))) }
+    ensures value { code result ≡ transfer_number img.old token.address (item_address rec.now i) 1 (item_amount rec.now i) }
+    ensures img_after { OnOk result ((img.new ≡ item_transfer img.old rec.now token.address i) × (events.new ≡ put_event events.old i (item_event img.old rec.now token.address i))) }
 {
-    let from = record::item_address(rec, i);
+    let from = Address {
+        number: record::item_address(rec, i),
+    };
     let n = record::item_amount(rec, i);
-    token::transfer(img, t, usize::from(from), 1, n)?;
-    deposits::put_deposited(events, i, from, n, token::balance(img, t, 1));
+    token::transfer(img, token.address, from, token::VAULT, n)?;
+    let held = token::balance(img, token, token::VAULT);
+    deposits::put_deposited(events, i, from.number, n, held);
     Ok(())
 }
 
@@ -83,43 +87,44 @@ fn transfer_item(
 fn transfer_items(
     img: &mut Image,
     rec: &Record,
-    t: usize,
+    token: Token,
     count: usize,
     events: &mut Buffer,
 ) -> Result<(), Refusal>
-    requires good { Good img.old × (events.old ≡ event_buffer []) × (count ≤ 16) × (48 ≤ t) × (t < 64) }
+    requires good { Good img.old × (events.old ≡ event_buffer []) × (count ≤ 16) }
     requires by_index { (j : ℕ) → j < count → (item_address rec.now j < 64) × (bias < item_amount rec.now j) }
-    ensures value { code result ≡ transfers_number count rec.now t 0 img.old }
-    ensures img_after { OnOk result ((img.new ≡ transfers_image count rec.now t 0 img.old) × (events.new ≡ event_buffer (transfers_events count rec.now t 0 img.old))) }
+    ensures value { code result ≡ transfers_number count rec.now token.address 0 img.old }
+    ensures img_after { OnOk result ((img.new ≡ transfers_image count rec.now token.address 0 img.old) × (events.new ≡ event_buffer (transfers_events count rec.now token.address 0 img.old))) }
 {
     for i in 0..count {
-        transfer_item(img, rec, t, i, events)?;
+        transfer_item(img, rec, token, i, events)?;
     }
     Ok(())
 }
 
 // 23 item by item; 12 of the sum; then the snapshot.
+#[tactic(auto, unfolding(fields::specs::Rules::chain, fields::specs::Rules::or_else, crate::specs::Batch::collect_outcome), using(outcome::specs::Outcome::refused, outcome::specs::Outcome::accepted, crate::specs::Laws::events_long))]
 fn collect(
     img: &mut Image,
     rec: &Record,
     head: Head,
-    t: usize,
+    token: Token,
     sum: Amount,
     events: &mut Buffer,
 ) -> Answer
-    requires good { Good img.old × (events.old ≡ event_buffer []) × (head.item_count ≤ 16) × (48 ≤ t) × (t < 64) × (bias ≤ biased sum) × (holding img.old (slot t) 1 + biased sum < bias + bias + bias) }
+    requires good { Good img.old × (events.old ≡ event_buffer []) × (head.item_count ≤ 16) × (bias ≤ biased sum) × (holding img.old (slot token.address) 1 + biased sum < bias + bias + bias) }
     requires by_index { (j : ℕ) → j < head.item_count → (item_address rec.now j < 64) × (bias < item_amount rec.now j) }
-    ensures { Does (collect_outcome img.old rec.now t head.sequence head.item_count (biased sum)) result img.new events.new }
+    ensures { Does (collect_outcome img.old rec.now token.address head.sequence head.item_count (biased sum)) result img.new events.new }
 {
-    let expected = token::balance(img, t, 1) + sum;
-    transfer_items(img, rec, t, usize::from(head.item_count), events)?;
-    let held = token::balance(img, t, 1);
+    let expected = token::balance(img, token, token::VAULT) + sum;
+    transfer_items(img, rec, token, usize::from(head.item_count), events)?;
+    let held = token::balance(img, token, token::VAULT);
     deposits::expected_check(held, expected)?;
-    storage::record_vault_balance(img, t, head.sequence, held);
+    storage::record_vault_balance(img, token, head.sequence, held);
     Ok(Done::new(head.item_count))
 }
 
-#[tactic(auto, using(storage::specs::Writes::default_range, crate::specs::Laws::open_free, deposits::proofs::Laws::funding_free))]
+#[tactic(auto, unfolding(fields::specs::Rules::chain, fields::specs::Rules::or_else, crate::specs::Batch::batch_outcome, crate::specs::Batch::batch_checks), using(outcome::specs::Outcome::refused, crate::specs::Laws::open_free, deposits::proofs::Laws::funding_free))]
 pub fn batch_deposit(img: &mut Image, rec: &Record, head: Head, events: &mut Buffer) -> Answer
     requires good { Good img.old × (events.old ≡ event_buffer []) × (head.item_count ≤ 16) }
     requires by_index { (j : ℕ) → j < head.item_count → item_address rec.now j < 64 }
@@ -127,7 +132,7 @@ pub fn batch_deposit(img: &mut Image, rec: &Record, head: Head, events: &mut Buf
 {
     open_check(img, head.item_count)?;
     let sum = add_items(rec, head.signers, usize::from(head.item_count))?;
-    let t = fields::get8(img, image::DEFAULT_TOKEN);
-    deposits::funding_check(img, t, head.sequence, sum)?;
-    collect(img, rec, head, usize::from(t), sum, events)
+    let token = token::default_token(img);
+    deposits::funding_check(img, token, head.sequence, sum)?;
+    collect(img, rec, head, token, sum, events)
 }

@@ -3,7 +3,7 @@ use Rattle.std.specs.Prelude.{◌≡◌, List, ℕ, ◌+◌, ◌≤◌, ◌<◌}
 use Rattle.std.proofs.Math.Path.{refl, sym}
 use Rattle.std.proofs.Common.{◌∙◌}
 use Rattle.checks.specs.Passed.{deposit_amount_free, limit_free, shared_free}
-use Rattle.token.specs.Token.{absent_number, transfer_rules, transfer_number, transfer_of}
+use Rattle.token.specs.Token.{transfer_rules, transfer_number, transfer_of}
 use Rattle.token.specs.Laws.{absent_free, transfer_free}
 use Rattle.storage.specs.Facts.{Good}
 use Rattle.storage.specs.Writes.{default_range}
@@ -43,9 +43,6 @@ checks_passed l t caller signers seq n g p e z =
       above = (deposit_amount_free n refl u.1.1.0).0;
       sum = funding_free l (default_token l) seq n refl u.1.1.1.0;
     })
-
-pub present : (l : List ℕ) (t : ℕ) {k : ℕ} → k ≡ absent_number l t → k ≡ 0 → (48 ≤ t) × (t < 64)
-present l t e z = let (low, (high, _)) = absent_free l t e z in (low, high)
 
 -- a transfer that does not fail, and the vault's holding as expected after it
 module _ (l : List ℕ) (t from n : ℕ) where

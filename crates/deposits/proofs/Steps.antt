@@ -1,32 +1,29 @@
 -- The steps of a deposit, from what the functions called say.
-use Rattle.std.specs.Prelude.{List, [], ◌∷◌, Bool, true, false, not, ◌||◌, leb, FitsSigned, Option, Some, None, IfOk}
+use Rattle.std.specs.Prelude.{List, [], ◌∷◌, Bool, true, false, not, ◌||◌, leb, FitsSigned, Option, Some, None, Result, IfOk}
 use Rattle.std.specs.Option.{ok_or}
 use Rattle.refusal.specs.Numbers.{code}
+use Rattle.refusal.specs.declared.Refusal.{Refusal}
 use Rattle.refusal.specs.declared.Refusal.TheVariants.{ArithmeticOverflow}
 use Rattle.amount.specs.Laws.{over_high, valued, sum-biased}
 use Rattle.std.proofs.Common.{Ordering, Less, Equal, Greater}
 use Rattle.std.specs.Int.{w128}
 use Rattle.std.specs.Ordering.{is_lt, is_ge, int_cmp}
-use mathlib.Core.Path.{◌≡◌, refl, sym, ap, ◌∙◌}
+use mathlib.Core.Path.{◌≡◌, refl, ap, ◌∙◌}
 use Prim.Native.Nat.{ℕ, ◌+◌, ◌-◌, ◌≤◌, ◌<◌}
 use native.Mathlib.Omega.{arith}
 use borrow.Author.Tests.{lt-ltb, le-ltb}
-use Rattle.token.specs.Token.{transfer_number, transfer_of, transferred}
-use Rattle.token.specs.Laws.{transfer_done}
 use Rattle.fields.specs.Frame.{under, over}
 use Rattle.storage.specs.Facts.{Keys}
 use Rattle.storage.specs.Kept.{only_record_balance}
 use Rattle.storage.specs.Regions.{same_keys}
 use Rattle.storage.specs.Setters.{set_credit, record_balance}
-use Rattle.image.specs.Layout.{slot, snapshot_at, holding, credit}
+use Rattle.image.specs.Layout.{slot, snapshot_at, credit}
 use Rattle.amount.specs.declared.Amount.{Amount}
 use Rattle.amount.specs.Biased.{bias, biased, in_range}
 use Rattle.amount.specs.Order.{less_is}
 use Rattle.checks.specs.Passed.{not_above}
-use Rattle.fields.specs.Rules.{pick, Guard, test, when, verdict, stop_at, ends_at}
-use Rattle.deposits.specs.Deposit.{overflow_rules, overflow_number, expected_number, deposit_holding, expected_holding, receive_number, add_credit}
-use Rattle.deposits.specs.Report.{credited_number}
-use Rattle.deposits.specs.TokenDeposit.{receive_token_number}
+use Rattle.fields.specs.Rules.{pick, Guard, test, when, verdict, stop_at}
+use Rattle.deposits.specs.Deposit.{overflow_rules, overflow_number, add_credit}
 
 not_less : (o : Ordering) → is_ge o ≡ not (is_lt o)
 not_less Less = refl
@@ -56,6 +53,12 @@ summed {s} a n e h = go s e
     go None e = (stop_at (overflow_rules a n) 0 7 (over_high (a + n) e refl (omega arith)) refl, tt)
     go (Some v) e = let g = (valued (a + n) e refl).0 in (stop_at (overflow_rules a n) 1 0 (omega arith) refl, sum-biased (a + n) e refl)
 
+pub summed_number : {s : Option Amount} {r : Result Amount Refusal} (a n : ℕ) → s ≡ in_range (a + n) → bias ≤ n → r ≡ ok_or s ArithmeticOverflow → code r ≡ overflow_number a n
+summed_number a n e h q = rw q (summed a n e h).0
+
+pub summed_value : {s : Option Amount} {r : Result Amount Refusal} (a n : ℕ) → s ≡ in_range (a + n) → bias ≤ n → r ≡ ok_or s ArithmeticOverflow → IfOk r (λ t. biased t ≡ a + n - bias)
+summed_value a n e h q = rw q (summed a n e h).1
+
 -- a snapshot leaves the tracked keys
 pub snapshot_keys : (l : List ℕ) (t q n : ℕ) {y : List ℕ} → t < 64 → Keys l → y ≡ record_balance l t q n → Keys y
 snapshot_keys l t q n h k e =
@@ -69,28 +72,3 @@ credit-fits l t a n h = rw (lt-ltb (credit l (slot t) a + n) (bias + bias + bias
 pub credit-kept : (l : List ℕ) (t a n : ℕ) → bias + bias + bias ≤ credit l (slot t) a + n → add_credit l t a n ≡ l
 unfolding add_credit
 credit-kept l t a n h = rw (le-ltb (credit l (slot t) a + n) (bias + bias + bias) h)
-
-module _ (l : List ℕ) (t from n : ℕ) where
-  -- y is the image after the transfer, which gave k
-  module _ {y : List ℕ} {k : ℕ} (a : k ≡ transfer_number l t from 1 n) (b : k ≡ 0) (c : y ≡ transferred l t from 1 n) where
-    pub moved_is : y ≡ transfer_of l t from 1 n
-    moved_is = c ∙ transfer_done l t from 1 n (sym a ∙ b)
-
-    -- o is the holding before it, d the one expected
-    module _ {o d : ℕ} (f : o ≡ holding l (slot t) 1) (g : d ≡ o + n - bias) where
-      expected_is : d ≡ expected_holding l t n
-      expected_is = g ∙ ap (λ (h : ℕ). h + n - bias) f
-
-      -- h is the holding after it
-      pub compared : {h j : ℕ} → h ≡ holding y (slot t) 1 → j ≡ expected_number h d → j ≡ receive_number l t from n
-      unfolding receive_number
-      compared e q =
-          let w : holding y (slot t) 1 ≡ deposit_holding l t from n = ap (λ (m : List ℕ). holding m (slot t) 1) moved_is in
-          ends_at _ 1 _ (sym a ∙ b, tt) (rw (e ∙ w, expected_is) at q)
-
-      pub credited : {j : ℕ} → j ≡ credited_number y t from d n → j ≡ credited_number (transfer_of l t from 1 n) t from (expected_holding l t n) n
-      credited q = rw (moved_is, expected_is) at q
-
-      pub token_compared : {i j : ℕ} → i ≡ overflow_number o n → i ≡ 0 → j ≡ credited_number y t from d n → j ≡ receive_token_number l t from n
-      unfolding receive_token_number
-      token_compared r z q = let s = rw f at r in ends_at _ 2 _ (sym a ∙ b, (sym s ∙ z, tt)) (credited q)

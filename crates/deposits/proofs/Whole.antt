@@ -1,29 +1,26 @@
 -- Whole deposits, from what their parts say.
-use Rattle.std.specs.Prelude.{Result, Ok, Err}
+use Rattle.std.specs.Prelude.{Result, Ok}
 use mathlib.Core.Path.{◌≡◌, refl, sym, ◌∙◌}
-use mathlib.Core.List.{List, []}
-use Prim.Native.Nat.{ℕ, ◌+◌, ◌≤◌, ◌<◌}
+use mathlib.Core.List.{List, [], ◌∷◌}
+use Prim.Native.Nat.{ℕ, ◌≤◌, ◌<◌}
 use native.Mathlib.Nat.{add-zero}
 use native.Mathlib.Omega.{arith}
 use borrow.Author.Tests.{eq-eqb, ne_eqb}
 use Rattle.refusal.specs.declared.Refusal.{Refusal}
 use Rattle.outcome.specs.declared.Done.{Done}
-use Rattle.outcome.specs.Outcome.{Does, Refuses, refused, accepted, Announced, announced}
+use Rattle.outcome.specs.Outcome.{Does, accepted, Announced, announced}
 use Rattle.outcome.specs.Checked.{checks_pass}
-use Rattle.events.specs.Kinds.{deposited_event, token_deposited_event, vault_deposit_failed_event}
-use Rattle.events.specs.Event.{put_event, event_buffer}
+use Rattle.events.specs.Kinds.{token_deposited_event, vault_deposit_failed_event}
+use Rattle.events.specs.Event.{EventFields, put_event, event_buffer}
 use Rattle.events.specs.Buffer.{appended}
 use Rattle.fields.specs.Rules.{AllFail}
 use Rattle.token.specs.Token.{transfer_rules, transfer_number, transfer_of, transferred}
-use Rattle.token.specs.Laws.{transfer_free, transfer_failed, good_transfer}
-use Rattle.deposits.proofs.Steps.{moved_is}
+use Rattle.token.specs.Laws.{transfer_done, transfer_free, transfer_failed, good_transfer}
 use Rattle.storage.specs.Facts.{Keys, Good}
-use Rattle.storage.specs.Setters.{record_balance}
-use Rattle.image.specs.Layout.{slot, default_token, holding}
 use Rattle.amount.specs.Biased.{bias, biased}
-use Rattle.deposits.specs.Deposit.{receive_number, add_credit, deposit_image, deposit_checks, deposited_outcome, deposit_outcome, gross_number, net_of, deposit_with_fee_outcome}
-use Rattle.deposits.specs.Report.{settled_report, report_outcome, failure_report_outcome}
-use Rattle.deposits.specs.TokenDeposit.{receive_token_number, deposit_token_image}
+use Rattle.deposits.specs.Deposit.{receive_number, deposit_outcome, gross_number, net_of, deposit_with_fee_outcome}
+use Rattle.deposits.specs.Report.{settled_report, report_outcome}
+use Rattle.deposits.specs.TokenDeposit.{receive_token_number}
 use Rattle.deposits.proofs.Laws.{receive_free, receive_token_free}
 
 -- the tracked keys after a transfer to the vault
@@ -31,7 +28,7 @@ pub moved_keys : (l : List ℕ) (t from n : ℕ) {y : List ℕ} → Good l → f
 moved_keys l t from n g fh p f q = rw q (good_transfer l t from 1 n g fh (omega arith) p f).keys
 
 pub transfer_keys : (l : List ℕ) (t from n : ℕ) {k : ℕ} {y : List ℕ} → Good l → from < 64 → bias ≤ n → k ≡ transfer_number l t from 1 n → k ≡ 0 → y ≡ transferred l t from 1 n → Keys y
-transfer_keys l t from n g fh p e z c = moved_keys l t from n g fh p (transfer_free l t from 1 n e z) (moved_is l t from n e z c)
+transfer_keys l t from n g fh p e z c = moved_keys l t from n g fh p (transfer_free l t from 1 n e z) (c ∙ transfer_done l t from 1 n (sym e ∙ z))
 
 module _ (l : List ℕ) (t from n : ℕ) {k : ℕ} {y : List ℕ} (g : Good l) (fh : from < 64) (p : bias < n) (q : y ≡ transfer_of l t from 1 n) (z : k ≡ 0) where
   pub received_keys : k ≡ receive_number l t from n → Keys y
@@ -40,37 +37,12 @@ module _ (l : List ℕ) (t from n : ℕ) {k : ℕ} {y : List ℕ} (g : Good l) (
   pub token_keys : k ≡ receive_token_number l t from n → Keys y
   token_keys e = moved_keys l t from n g fh (omega arith) (receive_free l t from n refl (receive_token_free l t from n e z)).0 q
 
--- y is the image after the transfer, m and w image and events after credit, snapshot and event
-pub deposited : (k v : ℕ) (l : List ℕ) (t from n : ℕ) {y m m' w : List ℕ} {d : Done} (o : List ℕ) → k ≡ 0 → y ≡ transfer_of l t from 1 n → o ≡ event_buffer []
-    → m ≡ m' → w ≡ put_event o 0 (deposited_event from n (holding y (slot t) 1))
-    → biased d.value ≡ bias + v → d.events ≡ 1 → Does (deposited_outcome k v l t from n m') (Ok d) m w
-deposited k v l t from n o z q b i p f h = accepted z f h i (appended [] 0 b refl (rw q at p) refl (omega arith))
-
-module _ (l : List ℕ) (t from seq n : ℕ) {y m : List ℕ} (q : y ≡ transfer_of l t from 1 n) where
-  pub settled_image : m ≡ record_balance (add_credit y t from n) t seq (holding y (slot t) 1) → m ≡ deposit_image l t from seq n
-  unfolding deposit_image
-  settled_image d = rw q at d
-
-  pub token_image : m ≡ add_credit (record_balance y t seq (holding y (slot t) 1)) t from n → m ≡ deposit_token_image l t from seq n
-  unfolding deposit_token_image
-  token_image d = rw q at d
-
--- ---- operations 2 and 9: the checks passed, and t is the default token
-module _ (l : List ℕ) (caller signers seq n : ℕ) {a : Result Done Refusal} {m w : List ℕ} (t : ℕ) (p : t ≡ default_token l) (z : 0 ≡ deposit_checks l caller signers seq n) where
-  pub deposit_passed : Does (deposited_outcome (receive_number l t caller n) 0 l t caller n (deposit_image l t caller seq n)) a m w → Does (deposit_outcome l caller signers seq n) a m w
-  unfolding deposit_outcome
-  deposit_passed d = checks_pass _ _ z (rw p at d)
-
-  pub report_passed : Does (report_outcome l t caller seq n) a m w → Does (failure_report_outcome l caller signers seq n) a m w
-  unfolding failure_report_outcome
-  report_passed d = checks_pass _ _ z (rw p at d)
+-- the first event
+pub written_one : {old new : List ℕ} (e : EventFields) → old ≡ event_buffer [] → new ≡ put_event old 0 e → new ≡ event_buffer (e ∷ [])
+written_one e b p = appended [] 0 b refl p refl (omega arith)
 
 -- ---- operation 3: the checks of gross and fee passed; m and v are image and events after `deposit` of the net
 module _ (l : List ℕ) (caller signers seq gross fee : ℕ) {m v : List ℕ} (z : 0 ≡ gross_number gross fee) where
-  pub net-refused : (e : Refusal) {a : Result Done Refusal} → Does (deposit_outcome l caller signers seq (net_of gross fee)) (Err e) m v → Refuses a e → Does (deposit_with_fee_outcome l caller signers seq gross fee) a m v
-  unfolding deposit_with_fee_outcome
-  net-refused e d r = checks_pass _ _ z (refused e r d.numbered)
-
   pub net-deposited : {b d : Done} {w : List ℕ} → Does (deposit_outcome l caller signers seq (net_of gross fee)) (Ok b) m v → w ≡ put_event v 1 (token_deposited_event caller gross fee (net_of gross fee))
       → (biased d.value ≡ bias) × (d.events ≡ 2) → Does (deposit_with_fee_outcome l caller signers seq gross fee) (Ok d) m w
   unfolding deposit_with_fee_outcome deposit_outcome
@@ -78,14 +50,12 @@ module _ (l : List ℕ) (caller signers seq gross fee : ℕ) {m v : List ℕ} (z
       let s = sym b.numbered in
       checks_pass _ _ z (accepted s (r.0 ∙ sym (add-zero bias)) r.1 (b.changed s) (appended _ 1 (b.written s) refl q refl (omega arith)))
 
--- ---- operation 9: k is what the transfer gave
-module _ (l : List ℕ) (t from seq n : ℕ) {k : ℕ} (e : k ≡ transfer_number l t from 1 n) where
-  pub reported : {d : Done} {y w : List ℕ} → (k ≡ 0 → ⊥) → y ≡ transferred l t from 1 n → Announced (vault_deposit_failed_event from t n) d w → Does (report_outcome l t from seq n) (Ok d) y w
+-- ---- operation 9: a transfer that failed, and one that did not
+module _ (l : List ℕ) (t from seq n : ℕ) where
+  pub reported : {d : Done} {y w : List ℕ} → (transfer_number l t from 1 n ≡ 0 → ⊥) → y ≡ transferred l t from 1 n → Announced (vault_deposit_failed_event from t n) d w → Does (report_outcome l t from seq n) (Ok d) y w
   unfolding report_outcome
-  reported z q a =
-      let f : transfer_number l t from 1 n ≡ 0 → ⊥ = λ y. z (e ∙ y) in
-      rw (ne_eqb (transfer_number l t from 1 n) 0 f) (announced refl refl a (q ∙ transfer_failed l t from 1 n f))
+  reported f q a = rw (ne_eqb (transfer_number l t from 1 n) 0 f) (announced refl refl a (q ∙ transfer_failed l t from 1 n f))
 
-  pub not_reported : {a : Result Done Refusal} {m w : List ℕ} → k ≡ 0 → Does (settled_report l t from seq n) a m w → Does (report_outcome l t from seq n) a m w
+  pub not_reported : {a : Result Done Refusal} {m w : List ℕ} → transfer_number l t from 1 n ≡ 0 → Does (settled_report l t from seq n) a m w → Does (report_outcome l t from seq n) a m w
   unfolding report_outcome
-  not_reported z d = rw (eq-eqb (transfer_number l t from 1 n) 0 (sym e ∙ z)) d
+  not_reported z d = rw (eq-eqb (transfer_number l t from 1 n) 0 z) d

@@ -1,7 +1,7 @@
 // Operations 2 `deposit`, 3 `deposit_with_fee`, 7 `deposit_token` and 9 `deposit_with_failure_report` (lib.rs).
-#![tactic(auto)]
+#![tactic(auto, unfolding(fields::specs::Rules::chain, fields::specs::Rules::or_else, crate::specs::Deposit::funding_number, crate::specs::Deposit::gross_number, crate::specs::Report::credited_number, crate::specs::TokenDeposit::token_cap_number, crate::specs::TokenDeposit::token_funding_number))]
 
-ghost use Rattle.std.specs.Prelude.{IfOk, OnOk, ◌≡◌, [], ◌+◌, ◌-◌, ◌<◌, ◌≤◌};
+ghost use Rattle.std.specs.Prelude.{IfOk, OnOk, ◌≡◌, [], ◌∷◌, ◌+◌, ◌-◌, ◌<◌, ◌≤◌};
 ghost use Rattle.refusal.specs.Numbers.{code};
 ghost use Rattle.amount.specs.Biased.{bias, biased};
 ghost use Rattle.image.specs.Layout.{slot, holding};
@@ -17,24 +17,24 @@ ghost use Rattle.deposits.specs.TokenDeposit.{token_cap_number, token_funding_nu
 
 use amount::Amount;
 use events::{Buffer, Event};
-use image::Image;
+use image::{Address, Image, Token};
 use outcome::{Answer, Done};
 use record::Head;
 use refusal::Refusal;
 
 // 10; 7, 6; 11.
-pub fn funding_check(img: &Image, t: u8, sequence: u32, n: Amount) -> Result<(), Refusal>
-    requires { (48 ≤ t) × (t < 64) × (bias ≤ biased n) }
-    ensures { code result ≡ funding_number img.now t sequence (biased n) }
+pub fn funding_check(img: &Image, token: Token, sequence: u32, n: Amount) -> Result<(), Refusal>
+    requires { bias ≤ biased n }
+    ensures { code result ≡ funding_number img.now token.address sequence (biased n) }
 {
-    checks::approved_check(img, t)?;
-    let i = usize::from(t);
-    let held = token::balance(img, i, 1);
+    checks::approved_check(img, token.address)?;
+    let held = token::balance(img, token, token::VAULT);
     checks::limit_check(held, n, amount::read_amount(img, image::VAULT_LIMIT))?;
-    storage::check_vault_balance(img, i, sequence, held)
+    storage::check_vault_balance(img, token, sequence, held)
 }
 
 // The sum, or 7 where it passes 2 ^ 127 - 1.
+#[tactic(auto, using(crate::proofs::Steps::summed_number, crate::proofs::Steps::summed_value))]
 fn checked_sum(a: Amount, n: Amount) -> Result<Amount, Refusal>
     requires { bias ≤ biased n }
     ensures number { code result ≡ overflow_number (biased a) (biased n) }
@@ -51,25 +51,25 @@ pub fn expected_check(held: Amount, expected: Amount) -> Result<(), Refusal>
 }
 
 // 23; 12.
-fn receive(img: &mut Image, head: Head, t: usize) -> Result<(), Refusal>
-    requires { Good img.old × (48 ≤ t) × (t < 64) × (head.caller < 64) × (bias ≤ biased head.amount) × (holding img.old (slot t) 1 + biased head.amount < bias + bias + bias) }
-    ensures value { code result ≡ receive_number img.old t head.caller (biased head.amount) }
-    ensures img_after { OnOk result (img.new ≡ transfer_of img.old t head.caller 1 (biased head.amount)) }
+#[tactic(auto, unfolding(fields::specs::Rules::chain, fields::specs::Rules::or_else, crate::specs::Deposit::receive_number), using(token::specs::Laws::transfer_done, refusal::specs::Laws::on_ok))]
+fn receive(img: &mut Image, token: Token, from: Address, n: Amount) -> Result<(), Refusal>
+    requires { Good img.old × (bias ≤ biased n) × (holding img.old (slot token.address) 1 + biased n < bias + bias + bias) }
+    ensures value { code result ≡ receive_number img.old token.address from.number (biased n) }
+    ensures img_after { OnOk result (img.new ≡ transfer_of img.old token.address from.number 1 (biased n)) }
 {
-    let expected = token::balance(img, t, 1) + head.amount;
-    token::transfer(img, t, usize::from(head.caller), 1, head.amount)?;
-    expected_check(token::balance(img, t, 1), expected)
+    let expected = token::balance(img, token, token::VAULT) + n;
+    token::transfer(img, token.address, from, token::VAULT, n)?;
+    expected_check(token::balance(img, token, token::VAULT), expected)
 }
 
 // A credit is added only if it fits.
-fn add_credit(img: &mut Image, head: Head, t: usize)
-    requires { Keys img.old × (48 ≤ t) × (t < 64) × (head.caller < 64) × (bias ≤ biased head.amount) }
-    ensures { img.new ≡ add_credit img.old t head.caller (biased head.amount) }
+fn add_credit(img: &mut Image, token: Token, account: Address, n: Amount)
+    requires { Keys img.old × (bias ≤ biased n) }
+    ensures { img.new ≡ add_credit img.old token.address account.number (biased n) }
 {
-    let account = usize::from(head.caller);
-    let old = storage::get_token_account_balance(img, t, account);
-    if let Some(sum) = old.checked_add(head.amount) {
-        storage::set_token_account_balance(img, t, account, sum);
+    let old = storage::get_token_account_balance(img, token, account);
+    if let Some(sum) = old.checked_add(n) {
+        storage::set_token_account_balance(img, token, account, sum);
     }
 }
 
@@ -90,19 +90,27 @@ pub fn put_deposited(events: &mut Buffer, i: usize, from: u8, amount: Amount, ne
 }
 
 // What follows the transfer: credit, snapshot and event.
-fn settle(img: &mut Image, head: Head, t: usize, events: &mut Buffer)
-    requires { Keys img.old × (48 ≤ t) × (t < 64) × (head.caller < 64) × (bias ≤ biased head.amount) }
-    ensures img_after { img.new ≡ record_balance (add_credit img.old t head.caller (biased head.amount)) t head.sequence (holding img.old (slot t) 1) }
-    ensures events_after { events.new ≡ put_event events.old 0 (deposited_event head.caller (biased head.amount) (holding img.old (slot t) 1)) }
+#[tactic(auto, using(crate::proofs::Whole::written_one))]
+fn settle(
+    img: &mut Image,
+    token: Token,
+    from: Address,
+    sequence: u32,
+    n: Amount,
+    events: &mut Buffer,
+)
+    requires { Keys img.old × (bias ≤ biased n) × (events.old ≡ event_buffer []) }
+    ensures img_after { img.new ≡ record_balance (add_credit img.old token.address from.number (biased n)) token.address sequence (holding img.old (slot token.address) 1) }
+    ensures events_after { events.new ≡ event_buffer (deposited_event from.number (biased n) (holding img.old (slot token.address) 1) ∷ []) }
 {
-    let held = token::balance(img, t, 1);
-    add_credit(img, head, t);
-    storage::record_vault_balance(img, t, head.sequence, held);
-    put_deposited(events, 0, head.caller, head.amount, held);
+    let held = token::balance(img, token, token::VAULT);
+    add_credit(img, token, from, n);
+    storage::record_vault_balance(img, token, sequence, held);
+    put_deposited(events, 0, from.number, n, held);
 }
 
 // 8; 1, 3, 22; 4, 5; 10; 7, 6; 11.
-#[tactic(auto, using(storage::specs::Writes::default_range, checks::specs::Passed::shared_free, checks::specs::Passed::deposit_amount_free))]
+#[tactic(auto, unfolding(fields::specs::Rules::chain, fields::specs::Rules::or_else, crate::specs::Deposit::deposit_checks), using(checks::specs::Passed::shared_free, checks::specs::Passed::deposit_amount_free))]
 fn deposit_checks(img: &Image, head: Head) -> Result<(), Refusal>
     requires { Good img.now }
     ensures { code result ≡ deposit_checks img.now head.caller head.signers head.sequence (biased head.amount) }
@@ -110,23 +118,26 @@ fn deposit_checks(img: &Image, head: Head) -> Result<(), Refusal>
     checks::paused_check(img)?;
     checks::shared_gate(img, head.caller, head.signers)?;
     checks::deposit_amount_check(head.amount)?;
-    let t = fields::get8(img, image::DEFAULT_TOKEN);
-    funding_check(img, t, head.sequence, head.amount)
+    funding_check(img, token::default_token(img), head.sequence, head.amount)
 }
 
-#[tactic(auto, using(crate::proofs::Laws::checks_passed, crate::proofs::Whole::received_keys))]
+#[tactic(auto, unfolding(fields::specs::Rules::chain, fields::specs::Rules::or_else, crate::specs::Deposit::deposit_outcome, crate::specs::Deposit::deposit_image), using(outcome::specs::Outcome::refused, outcome::specs::Outcome::accepted, crate::proofs::Laws::checks_passed, crate::proofs::Whole::received_keys))]
 pub fn deposit(img: &mut Image, head: Head, events: &mut Buffer) -> Answer
     requires { Good img.old × (head.caller < 64) × (events.old ≡ event_buffer []) }
     ensures { Does (deposit_outcome img.old head.caller head.signers head.sequence (biased head.amount)) result img.new events.new }
 {
     deposit_checks(img, head)?;
-    let t = usize::from(fields::get8(img, image::DEFAULT_TOKEN));
-    receive(img, head, t)?;
-    settle(img, head, t, events);
+    let token = token::default_token(img);
+    let from = Address {
+        number: head.caller,
+    };
+    receive(img, token, from, head.amount)?;
+    settle(img, token, from, head.sequence, head.amount, events);
     Ok(Done::new(1))
 }
 
 // 4 of the gross amount and the fee.
+#[tactic(auto, unfolding(crate::specs::Deposit::fee_number), using(crate::proofs::Steps::any_of, crate::proofs::Steps::ge_is, checks::specs::Passed::not_above))]
 fn fee_check(gross: Amount, fee: Amount) -> Result<(), Refusal>
     ensures { code result ≡ fee_number (biased gross) (biased fee) }
 {
@@ -144,7 +155,7 @@ fn gross_check(gross: Amount, fee: Amount) -> Result<(), Refusal>
     checks::max_deposit_check(gross)
 }
 
-#[tactic(auto, using(crate::proofs::Laws::gross_free))]
+#[tactic(auto, unfolding(fields::specs::Rules::chain, fields::specs::Rules::or_else, crate::specs::Deposit::deposit_with_fee_outcome), using(outcome::specs::Outcome::refused, crate::proofs::Laws::gross_free))]
 pub fn deposit_with_fee(img: &mut Image, head: Head, events: &mut Buffer) -> Answer
     requires { Good img.old × (head.caller < 64) × (events.old ≡ event_buffer []) }
     ensures { Does (deposit_with_fee_outcome img.old head.caller head.signers head.sequence (biased head.amount) (biased head.fee)) result img.new events.new }
@@ -173,85 +184,106 @@ pub fn deposit_with_fee(img: &mut Image, head: Head, events: &mut Buffer) -> Ans
 }
 
 // 12; 7 of the credit, once the transfer is made.
-fn credited_check(img: &Image, head: Head, t: usize, expected: Amount) -> Result<(), Refusal>
-    requires { (48 ≤ t) × (t < 64) × (head.caller < 64) × (bias ≤ biased head.amount) }
-    ensures { code result ≡ credited_number img.now t head.caller (biased expected) (biased head.amount) }
+fn credited_check(
+    img: &Image,
+    token: Token,
+    from: Address,
+    expected: Amount,
+    n: Amount,
+) -> Result<(), Refusal>
+    requires { bias ≤ biased n }
+    ensures { code result ≡ credited_number img.now token.address from.number (biased expected) (biased n) }
 {
-    expected_check(token::balance(img, t, 1), expected)?;
-    let credit = storage::get_token_account_balance(img, t, usize::from(head.caller));
-    checked_sum(credit, head.amount)?;
+    expected_check(token::balance(img, token, token::VAULT), expected)?;
+    let credit = storage::get_token_account_balance(img, token, from);
+    checked_sum(credit, n)?;
     Ok(())
 }
 
 // A failed transfer is done with value 0; else 12; 7.
 #[tactic(auto, using(crate::proofs::Whole::transfer_keys, refusal::specs::Laws::code_is_ok))]
-fn report(img: &mut Image, head: Head, t: u8, events: &mut Buffer) -> Answer
-    requires { Good img.old × (48 ≤ t) × (t < 64) × (head.caller < 64) × (bias ≤ biased head.amount) × (holding img.old (slot t) 1 + biased head.amount < bias + bias + bias) × (events.old ≡ event_buffer []) }
-    ensures { Does (report_outcome img.old t head.caller head.sequence (biased head.amount)) result img.new events.new }
+fn report(
+    img: &mut Image,
+    token: Token,
+    from: Address,
+    sequence: u32,
+    n: Amount,
+    events: &mut Buffer,
+) -> Answer
+    requires { Good img.old × (bias ≤ biased n) × (holding img.old (slot token.address) 1 + biased n < bias + bias + bias) × (events.old ≡ event_buffer []) }
+    ensures { Does (report_outcome img.old token.address from.number sequence (biased n)) result img.new events.new }
 {
-    let i = usize::from(t);
-    let expected = token::balance(img, i, 1) + head.amount;
-    if token::transfer(img, i, usize::from(head.caller), 1, head.amount).is_err() {
+    let expected = token::balance(img, token, token::VAULT) + n;
+    if token::transfer(img, token.address, from, token::VAULT, n).is_err() {
         return Ok(outcome::announce(
             events,
             Event::VaultDepositFailed {
-                from: head.caller,
-                token: t,
-                amount: head.amount,
+                from: from.number,
+                token: token.address,
+                amount: n,
             },
         ));
     }
-    credited_check(img, head, i, expected)?;
-    settle(img, head, i, events);
+    credited_check(img, token, from, expected, n)?;
+    settle(img, token, from, sequence, n, events);
     Ok(Done {
         value: Amount::from(1),
         events: 1,
     })
 }
 
-#[tactic(auto, using(crate::proofs::Laws::checks_passed))]
+#[tactic(auto, unfolding(fields::specs::Rules::chain, fields::specs::Rules::or_else, crate::specs::Report::failure_report_outcome), using(outcome::specs::Outcome::refused, crate::proofs::Laws::checks_passed))]
 pub fn deposit_with_failure_report(img: &mut Image, head: Head, events: &mut Buffer) -> Answer
     requires { Good img.old × (head.caller < 64) × (events.old ≡ event_buffer []) }
     ensures { Does (failure_report_outcome img.old head.caller head.signers head.sequence (biased head.amount)) result img.new events.new }
 {
     deposit_checks(img, head)?;
-    let t = fields::get8(img, image::DEFAULT_TOKEN);
-    report(img, head, t, events)
-}
-
-// With a cap: 7, 6.
-fn token_cap_check(img: &Image, t: u8, held: Amount, n: Amount) -> Result<(), Refusal>
-    requires { (t < 64) × (bias ≤ biased n) }
-    ensures { code result ≡ token_cap_number img.now t (biased held) (biased n) }
-{
-    if !checks::contains(fields::get64(img, image::CAPPED_SET), t) {
-        return Ok(());
-    }
-    checks::limit_check(
-        held,
-        n,
-        amount::read_amount(img, image::CAPS + 16 * usize::from(t)),
+    let from = Address {
+        number: head.caller,
+    };
+    report(
+        img,
+        token::default_token(img),
+        from,
+        head.sequence,
+        head.amount,
+        events,
     )
 }
 
+// With a cap: 7, 6.
+fn token_cap_check(img: &Image, token: Token, held: Amount, n: Amount) -> Result<(), Refusal>
+    requires { bias ≤ biased n }
+    ensures { code result ≡ token_cap_number img.now token.address (biased held) (biased n) }
+{
+    if !checks::contains(fields::get64(img, image::CAPPED_SET), token.address) {
+        return Ok(());
+    }
+    let address = Address {
+        number: token.address,
+    };
+    checks::limit_check(held, n, amount::read_amount(img, image::cap_at(address)))
+}
+
 // 10; 23; 11; with a cap 7, 6.
-#[tactic(auto, using(crate::proofs::Laws::present))]
-fn token_funding_check(img: &Image, head: Head) -> Result<(), Refusal>
+fn token_funding_check(img: &Image, head: Head) -> Result<Token, Refusal>
     requires { bias ≤ biased head.amount }
-    ensures { code result ≡ token_funding_number img.now head.token head.sequence (biased head.amount) }
+    ensures number { code result ≡ token_funding_number img.now head.token head.sequence (biased head.amount) }
+    ensures token { IfOk result (λ token. token.address ≡ head.token) }
 {
     checks::approved_check(img, head.token)?;
-    let t = usize::from(head.token);
-    token::presence_check(img, t)?;
-    let held = token::balance(img, t, 1);
-    storage::check_vault_balance(img, t, head.sequence, held)?;
-    token_cap_check(img, head.token, held, head.amount)
+    let token = token::presence_check(img, head.token)?;
+    let held = token::balance(img, token, token::VAULT);
+    storage::check_vault_balance(img, token, head.sequence, held)?;
+    token_cap_check(img, token, held, head.amount)?;
+    Ok(token)
 }
 
 // 8; 1, 3, 22; 4, 5; 10; 23; 11; 7, 6.
-#[tactic(auto, using(checks::specs::Passed::deposit_amount_free))]
-fn token_checks(img: &Image, head: Head) -> Result<(), Refusal>
-    ensures { code result ≡ token_checks img.now head.caller head.signers head.sequence head.token (biased head.amount) }
+#[tactic(auto, unfolding(fields::specs::Rules::chain, fields::specs::Rules::or_else, crate::specs::TokenDeposit::token_checks), using(checks::specs::Passed::deposit_amount_free))]
+fn token_checks(img: &Image, head: Head) -> Result<Token, Refusal>
+    ensures number { code result ≡ token_checks img.now head.caller head.signers head.sequence head.token (biased head.amount) }
+    ensures token { IfOk result (λ token. token.address ≡ head.token) }
 {
     checks::paused_check(img)?;
     checks::shared_gate(img, head.caller, head.signers)?;
@@ -260,38 +292,48 @@ fn token_checks(img: &Image, head: Head) -> Result<(), Refusal>
 }
 
 // 23; 7; 12; 7 of the credit.
-fn receive_token(img: &mut Image, head: Head, t: usize) -> Result<(), Refusal>
-    requires { Good img.old × (48 ≤ t) × (t < 64) × (head.caller < 64) × (bias ≤ biased head.amount) }
-    ensures value { code result ≡ receive_token_number img.old t head.caller (biased head.amount) }
-    ensures img_after { OnOk result (img.new ≡ transfer_of img.old t head.caller 1 (biased head.amount)) }
+#[tactic(auto, unfolding(fields::specs::Rules::chain, fields::specs::Rules::or_else, crate::specs::TokenDeposit::receive_token_number), using(token::specs::Laws::transfer_done, refusal::specs::Laws::on_ok))]
+fn receive_token(img: &mut Image, token: Token, from: Address, n: Amount) -> Result<(), Refusal>
+    requires { Good img.old × (bias ≤ biased n) }
+    ensures value { code result ≡ receive_token_number img.old token.address from.number (biased n) }
+    ensures img_after { OnOk result (img.new ≡ transfer_of img.old token.address from.number 1 (biased n)) }
 {
-    let before = token::balance(img, t, 1);
-    token::transfer(img, t, usize::from(head.caller), 1, head.amount)?;
-    let expected = checked_sum(before, head.amount)?;
-    credited_check(img, head, t, expected)
+    let before = token::balance(img, token, token::VAULT);
+    token::transfer(img, token.address, from, token::VAULT, n)?;
+    let expected = checked_sum(before, n)?;
+    credited_check(img, token, from, expected, n)
 }
 
 // What follows the transfer: snapshot, credit and event.
-#[tactic(auto, using(crate::proofs::Steps::snapshot_keys))]
-fn settle_token(img: &mut Image, head: Head, t: usize, events: &mut Buffer)
-    requires { Keys img.old × (48 ≤ t) × (t < 64) × (head.caller < 64) × (bias ≤ biased head.amount) }
-    ensures img_after { img.new ≡ add_credit (record_balance img.old t head.sequence (holding img.old (slot t) 1)) t head.caller (biased head.amount) }
-    ensures events_after { events.new ≡ put_event events.old 0 (deposited_event head.caller (biased head.amount) (holding img.old (slot t) 1)) }
+#[tactic(auto, using(crate::proofs::Whole::written_one, crate::proofs::Steps::snapshot_keys))]
+fn settle_token(
+    img: &mut Image,
+    token: Token,
+    from: Address,
+    sequence: u32,
+    n: Amount,
+    events: &mut Buffer,
+)
+    requires { Keys img.old × (bias ≤ biased n) × (events.old ≡ event_buffer []) }
+    ensures img_after { img.new ≡ add_credit (record_balance img.old token.address sequence (holding img.old (slot token.address) 1)) token.address from.number (biased n) }
+    ensures events_after { events.new ≡ event_buffer (deposited_event from.number (biased n) (holding img.old (slot token.address) 1) ∷ []) }
 {
-    let held = token::balance(img, t, 1);
-    storage::record_vault_balance(img, t, head.sequence, held);
-    add_credit(img, head, t);
-    put_deposited(events, 0, head.caller, head.amount, held);
+    let held = token::balance(img, token, token::VAULT);
+    storage::record_vault_balance(img, token, sequence, held);
+    add_credit(img, token, from, n);
+    put_deposited(events, 0, from.number, n, held);
 }
 
-#[tactic(auto, using(crate::proofs::Laws::token_passed, crate::proofs::Whole::token_keys))]
+#[tactic(auto, unfolding(fields::specs::Rules::chain, fields::specs::Rules::or_else, crate::specs::TokenDeposit::deposit_token_outcome, crate::specs::TokenDeposit::deposit_token_image), using(outcome::specs::Outcome::refused, outcome::specs::Outcome::accepted, crate::proofs::Laws::token_passed, crate::proofs::Whole::token_keys))]
 pub fn deposit_token(img: &mut Image, head: Head, events: &mut Buffer) -> Answer
     requires { Good img.old × (head.caller < 64) × (events.old ≡ event_buffer []) }
     ensures { Does (deposit_token_outcome img.old head.caller head.signers head.sequence head.token (biased head.amount)) result img.new events.new }
 {
-    token_checks(img, head)?;
-    let t = usize::from(head.token);
-    receive_token(img, head, t)?;
-    settle_token(img, head, t, events);
+    let token = token_checks(img, head)?;
+    let from = Address {
+        number: head.caller,
+    };
+    receive_token(img, token, from, head.amount)?;
+    settle_token(img, token, from, head.sequence, head.amount, events);
     Ok(Done::new(1))
 }

@@ -7,7 +7,7 @@ use Rattle.deposits.proofs.add_credit.Goals as goal
 
 pub returns-in_default : goal.returns-in_default
 returns-in_default c =
-    let e = rw c.from-account.ensures at c.get_token_account_balance-old.ensures in
+    let e = c.get_token_account_balance-old.ensures in
     let h = over_high _ c.checked_add.ensures c.in_default.is (omega arith) in
     sym (credit-kept _ _ _ _ (omega arith))
 
@@ -15,5 +15,5 @@ pub returns-in-Some : goal.returns-in-Some
 returns-in-Some c =
     let h = (valued _ c.checked_add.ensures c.in-Some.is).0 in
     let e = sum-biased _ c.checked_add.ensures c.in-Some.is in
-    let f = rw c.from-account.ensures at c.get_token_account_balance-old.ensures in
-    rw (c.set_token_account_balance.ensures, c.from-account.ensures, e, f) (sym (credit-fits _ _ _ _ (omega arith)))
+    let f = c.get_token_account_balance-old.ensures in
+    rw (c.set_token_account_balance.ensures, e, f) (sym (credit-fits _ _ _ _ (omega arith)))

@@ -1,39 +1,29 @@
 -- `deposits::report` meets its contract.
-use Rattle.deposits.proofs.Whole.{deposited, settled_image, reported, not_reported}
-use mathlib.Core.Path.{sym}
-use Rattle.deposits.proofs.Steps.{moved_is, credited}
+use Rattle.deposits.proofs.Whole.{reported, not_reported}
+use Rattle.deposits.specs.Deposit.{deposit_image}
+use Rattle.token.specs.Laws.{transfer_done}
 use Rattle.refusal.specs.Laws.{code_is_err, code_is_ok}
-use Rattle.outcome.specs.Outcome.{refused}
-use Rattle.amount.specs.Biased.{biased}
-use mathlib.Core.Path.{refl}
+use Rattle.outcome.specs.Outcome.{refused, accepted}
+use mathlib.Core.Path.{refl, sym, ◌∙◌}
 use Rattle.deposits.proofs.report.Goals as goal
 
 pub returns-then-is_err : goal.returns-then-is_err
 returns-then-is_err c =
-    let x = c.args in
-    let h = x.head in
-    let y = rw (c.from-i.ensures, c.from.ensures) at c.transfer.ensures in
-    reported x.img.now x.t h.caller h.sequence (biased h.amount) y.value (code_is_err c.transfer.result c.is_err.ensures.negation c.if-is_err.true) y.img_after c.announce.ensures
+    let y = c.transfer.ensures in
+    reported _ _ _ _ _ (λ z. code_is_err c.transfer.result c.is_err.ensures.negation c.if-is_err.true (y.value ∙ z)) y.img_after c.announce.ensures
 
 pub returns-in_err-credited_check : goal.returns-in_err-credited_check
 returns-in_err-credited_check c =
-    let x = c.args in
-    let h = x.head in
-    let t = c.from-i.result in
-    let y = rw c.from.ensures at c.transfer.ensures in
-    let z = code_is_ok c.transfer.result c.is_err.ensures.negation c.if-is_err.false in
-    rw (← c.from-i.ensures)
-    (not_reported x.img.now t h.caller h.sequence (biased h.amount) y.value z (refused _ c.from_residual.ensures (credited x.img.now t h.caller (biased h.amount) y.value z y.img_after c.balance.ensures c.add-expected.ensures c.in_err-credited_check.ensures)))
+    let y = c.transfer.ensures in
+    let z = sym y.value ∙ code_is_ok c.transfer.result c.is_err.ensures.negation c.if-is_err.false in
+    let q = rw (y.img_after ∙ transfer_done _ _ _ _ _ z, c.add-expected.ensures, c.balance.ensures) at c.in_err-credited_check.ensures in
+    not_reported _ _ _ _ _ z (refused _ c.from_residual.ensures q)
 
 pub returns : goal.returns
+unfolding deposit_image
 returns c =
-    let x = c.args in
-    let h = x.head in
-    let t = c.from-i.result in
-    let y = rw c.from.ensures at c.transfer.ensures in
-    let z = code_is_ok c.transfer.result c.is_err.ensures.negation c.if-is_err.false in
-    let q = credited x.img.now t h.caller (biased h.amount) y.value z y.img_after c.balance.ensures c.add-expected.ensures c.in_ok-credited_check.ensures in
-    let m = moved_is x.img.now t h.caller (biased h.amount) y.value z y.img_after in
-    let i = settled_image x.img.now t h.caller h.sequence (biased h.amount) m c.settle.ensures.img_after in
-    rw (← c.from-i.ensures)
-    (not_reported x.img.now t h.caller h.sequence (biased h.amount) y.value z (deposited _ 1 x.img.now t h.caller (biased h.amount) x.events.now (sym q) m c.requires.6 i c.settle.ensures.events_after c.from-2.ensures refl))
+    let y = c.transfer.ensures in
+    let z = sym y.value ∙ code_is_ok c.transfer.result c.is_err.ensures.negation c.if-is_err.false in
+    let m = y.img_after ∙ transfer_done _ _ _ _ _ z in
+    let q = rw (m, c.add-expected.ensures, c.balance.ensures) at c.in_ok-credited_check.ensures in
+    not_reported _ _ _ _ _ z (accepted (sym q) c.from.ensures refl (rw m at c.settle.ensures.img_after) (rw m at c.settle.ensures.events_after))
