@@ -103,7 +103,7 @@ fn items_exceed(rec: &Record, operation: Operation) -> bool
     ensures { result ≡ items_exceed rec.now }
 {
     let count = rec[ITEM_COUNT];
-    operation.reads_items() && (count > 16 || !items_within(rec, count as usize))
+    operation.reads_items() && (count > 16 || !items_within(rec, usize::from(count)))
 }
 
 #[tactic(auto, using(crate::proofs::Bytes::byte_read))]

@@ -8,7 +8,7 @@ ghost use Rattle.image.specs.Layout.{initialised};
 ghost use Rattle.storage.specs.Facts.{Good};
 ghost use Rattle.events.specs.Event.{event_buffer};
 ghost use Rattle.outcome.specs.Outcome.{Does};
-ghost use Rattle.settings.specs.Settings.{operator_limit_number, operator_limit_outcome, below_holding_number, limit_role_number, limit_set_number, limit_set_outcome, token_max_limit_number, token_max_limit_outcome, operator_set_outcome, operator_revoked_outcome, pause_outcome, unpause_outcome};
+ghost use Rattle.settings.specs.Settings.{operator_limit_outcome, below_holding_number, limit_role_number, limit_set_number, limit_set_outcome, token_max_limit_outcome, operator_set_outcome, operator_revoked_outcome, pause_outcome, unpause_outcome};
 
 use amount::Amount;
 use events::{Buffer, Event};
@@ -18,19 +18,13 @@ use record::Head;
 use refusal::Refusal;
 
 // 8; 1, 3, 22; 4.
-fn operator_limit_check(img: &Image, head: Head) -> Result<(), Refusal>
-    ensures { code result ≡ operator_limit_number img.now head.caller head.signers (biased head.amount) }
-{
-    checks::paused_check(img)?;
-    checks::owner_gate(img, head.caller, head.signers)?;
-    checks::amount_check(head.amount)
-}
-
 pub fn set_operator_withdraw_limit(img: &mut Image, head: Head, events: &mut Buffer) -> Answer
     requires { Good img.old × (events.old ≡ event_buffer []) }
     ensures { Does (operator_limit_outcome img.old head.caller head.signers (biased head.amount)) result img.new events.new }
 {
-    operator_limit_check(img, head)?;
+    checks::paused_check(img)?;
+    checks::owner_gate(img, head.caller, head.signers)?;
+    checks::amount_check(head.amount)?;
     let old = amount::read_amount(img, image::OPERATOR_LIMIT);
     storage::set_flag(img, Flag::OperatorLimit);
     amount::write_amount(img, image::OPERATOR_LIMIT, head.amount);
@@ -96,19 +90,13 @@ pub fn set_limit(img: &mut Image, head: Head, events: &mut Buffer) -> Answer
 }
 
 // 8; 1, 3, 22; 4.
-fn token_max_limit_check(img: &Image, head: Head) -> Result<(), Refusal>
-    ensures { code result ≡ token_max_limit_number img.now head.caller head.signers (biased head.amount) }
-{
-    checks::paused_check(img)?;
-    checks::shared_gate(img, head.caller, head.signers)?;
-    checks::amount_check(head.amount)
-}
-
 pub fn set_token_max_limit(img: &mut Image, head: Head, events: &mut Buffer) -> Answer
     requires { Good img.old × (head.token < 64) × (events.old ≡ event_buffer []) }
     ensures { Does (token_max_limit_outcome img.old head.caller head.token head.signers (biased head.amount)) result img.new events.new }
 {
-    token_max_limit_check(img, head)?;
+    checks::paused_check(img)?;
+    checks::shared_gate(img, head.caller, head.signers)?;
+    checks::amount_check(head.amount)?;
     let address = Address { number: head.token };
     storage::set_token_max_limit(img, address, head.amount);
     Ok(Done::new(0))

@@ -1,7 +1,7 @@
 -- `record::items_within` meets its contract.
 use Rattle.record.specs.Record.{item_address}
 use Rattle.record.specs.Form.{item_within, items_within}
-use Rattle.fields.specs.Logic.{all_none, all-step, all_stop, all_end}
+use Rattle.fields.specs.Logic.{all_none, all-step, all_stop}
 use borrow.Author.Tests.{lt-ltb, le-ltb}
 use native.Mathlib.Omega.{arith}
 use borrow.Author.Rules.{rules}
@@ -20,4 +20,3 @@ pub loop-i-preserved : goal.loop-i-preserved
 unfolding items_within
 loop-i-preserved c = let l = c.loop-i in let x = c.args in
     all-step (item_within x.rec.now) l.i l.invariant (lt-ltb (item_address x.rec.now l.i) 64 (omega arith))
-
