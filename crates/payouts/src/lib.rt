@@ -1,5 +1,5 @@
 // Operations 5 `withdraw`, 6 `withdraw_batch` and 8 `withdraw_token` (lib.rs).
-#![tactic(auto, unfolding(fields::specs::Rules::chain, fields::specs::Rules::or_else, fields::specs::Rules::verdict), using(checks::specs::Passed::shared_free))]
+#![tactic(auto)]
 
 ghost use Rattle.std.specs.Prelude.{OnOk, IfOk, ◌≡◌, [], ◌∷◌, ◌+◌, ◌-◌, ◌<◌, ◌≤◌};
 ghost use Rattle.refusal.specs.Numbers.{code};
@@ -210,21 +210,21 @@ fn withdraw_token_checks(img: &Image, head: Head) -> Result<Token, Refusal>
     ensures number { code result ≡ withdraw_token_checks img.now head.token head.caller head.signers (biased head.amount) }
     ensures token { IfOk result (λ token. token.address ≡ head.token) }
 {
-    let caller = Address {
-        number: head.caller,
-    };
     checks::paused_check(img)?;
     checks::shared_gate(img, head.caller, head.signers)?;
     checks::amount_check(head.amount)?;
     checks::cap_check(img, head.caller, head.amount)?;
     let token = token::presence_check(img, head.token)?;
     checks::funds_check(token::balance(img, token, token::VAULT), head.amount)?;
+    let caller = Address {
+        number: head.caller,
+    };
     credit_check(img, token, caller, head.amount)?;
     Ok(token)
 }
 
 // Operation 5.
-#[tactic(auto, unfolding(fields::specs::Rules::chain, fields::specs::Rules::or_else, crate::specs::Payouts::withdraw_number, crate::specs::Payouts::withdraw_outcome), using(outcome::specs::Outcome::refused, crate::specs::Laws::checks_passed, crate::proofs::Whole::paid_out, crate::proofs::Whole::withdrawn))]
+#[tactic(auto, unfolding(fields::specs::Rules::chain, fields::specs::Rules::or_else, crate::specs::Payouts::withdraw_number, crate::specs::Payouts::withdraw_outcome), using(outcome::specs::Outcome::refused, crate::specs::Laws::checks_passed, crate::proofs::Whole::paid_out))]
 pub fn withdraw(img: &mut Image, head: Head, events: &mut Buffer) -> Answer
     requires { Good img.old × (head.other < 64) × (events.old ≡ event_buffer []) }
     ensures { Does (withdraw_outcome img.old head.caller head.signers head.sequence (payout head.other (biased head.amount) ∷ [])) result img.new events.new }
@@ -237,7 +237,7 @@ pub fn withdraw(img: &mut Image, head: Head, events: &mut Buffer) -> Answer
 }
 
 // Operation 6.
-#[tactic(auto, unfolding(fields::specs::Rules::chain, fields::specs::Rules::or_else, crate::specs::Payouts::withdraw_number, crate::specs::Payouts::withdraw_outcome), using(outcome::specs::Outcome::refused, crate::specs::Laws::checks_passed, crate::proofs::Whole::paid_out, crate::proofs::Whole::items_withdrawn))]
+#[tactic(auto, unfolding(fields::specs::Rules::chain, fields::specs::Rules::or_else, crate::specs::Payouts::withdraw_number, crate::specs::Payouts::withdraw_outcome), using(outcome::specs::Outcome::refused, crate::specs::Laws::checks_passed, crate::proofs::Whole::paid_out))]
 pub fn withdraw_batch(img: &mut Image, rec: &Record, head: Head, events: &mut Buffer) -> Answer
     requires good { Good img.old × (head.item_count ≤ 16) × (events.old ≡ event_buffer []) }
     requires addressed { Addressed (items head.item_count 0 rec.now) }
@@ -250,7 +250,7 @@ pub fn withdraw_batch(img: &mut Image, rec: &Record, head: Head, events: &mut Bu
 }
 
 // Operation 8.
-#[tactic(auto, unfolding(fields::specs::Rules::chain, fields::specs::Rules::or_else, crate::specs::Token::withdraw_token_number, crate::specs::Token::withdraw_token_outcome), using(outcome::specs::Outcome::refused, crate::specs::Laws::token_checks_passed, crate::proofs::Whole::sent_keys, crate::proofs::Whole::token_withdrawn))]
+#[tactic(auto, unfolding(fields::specs::Rules::chain, fields::specs::Rules::or_else, crate::specs::Token::withdraw_token_number, crate::specs::Token::withdraw_token_outcome), using(outcome::specs::Outcome::refused, crate::specs::Laws::token_checks_passed, crate::proofs::Whole::sent_keys))]
 pub fn withdraw_token(img: &mut Image, head: Head, events: &mut Buffer) -> Answer
     requires { Good img.old × (head.caller < 64) × (head.other < 64) × (events.old ≡ event_buffer []) }
     ensures { Does (withdraw_token_outcome img.old head.token head.caller head.signers head.sequence head.other (biased head.amount)) result img.new events.new }
