@@ -13,7 +13,7 @@ use Rattle.fields.specs.Bytes.{le, le_below, le-drop, le_split}
 use Rattle.amount.specs.Biased.{amount_at, bias, sign_of}
 use Rattle.amount.specs.Laws.{by_lt, bias_parts, amount_at_zero, sign_below, sign_zero, sign_above}
 use Rattle.image.specs.Layout.{tracked_key, default_token}
-use Rattle.fields.specs.Logic.{◌and◌, ◌or◌, and_l, and_r, and_i, and_false, false_and}
+use Rattle.fields.specs.Logic.{◌and◌, ◌or◌, and_l, and_r, and_i, and_false, false_and, true_and, and_is, and_assoc, all_none, all-step, all_stop, all_end}
 use Rattle.fields.specs.Zeros.{each}
 use Rattle.image.specs.Good.{not_negative_here, not_negatives, tracked, fresh_key, good_addresses}
 
@@ -154,3 +154,9 @@ fresh_new s t i x e l h z = rw (← e, lt-ltb x 1088 l, mark_zero (tracked s i x
 pub token_address : (l : List ℕ) → good_addresses l ≡ true → default_token l < 64
 unfolding good_addresses
 token_address l h = ltb-true (default_token l) 64 (and_l _ _ (and_r _ _ h))
+
+-- a loop that tests each index
+pub ruleset each_tested = (all_none, all-step, all_stop, all_end)
+
+-- tests of numbers within a conjunction, some already known
+pub ruleset known_tests = (and_is, and_assoc, false_and, true_and, and_false, lt-ltb, le-ltb, le-leb, lt-leb)

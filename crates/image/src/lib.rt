@@ -1,5 +1,5 @@
 // Whether an image is good: one function for each part of the definition.
-#![tactic(auto)]
+#![tactic(auto, unfolding(crate::specs::Good::above_where, crate::specs::Good::good_addresses, crate::specs::Good::good_defaults, crate::specs::Good::good_pending, crate::specs::Good::good_migration, crate::specs::Good::good_options, crate::specs::Good::good_head, crate::specs::Good::good_cap, crate::specs::Good::good_keys, crate::specs::Good::good_snapshot, crate::specs::Good::good_absent, crate::specs::Good::good_present, crate::specs::Good::good_token, crate::specs::Good::good_image), using(fields::specs::Logic::and_is, fields::specs::Logic::or_is, fields::specs::Logic::and_assoc))]
 
 mod address;
 mod flag;
@@ -85,6 +85,7 @@ fn above_at(s: &[u8], at: usize) -> bool
     amount::read_amount(s, at).is_positive()
 }
 
+#[tactic(auto, using(fields::specs::Logic::and_is, crate::specs::Laws::both_zero))]
 fn nothing_at(s: &[u8], at: usize) -> bool
     requires { at + 16 ≤ length s.now }
     ensures { result ≡ eqb (amount_at s.now at) bias }
@@ -111,6 +112,7 @@ fn above_where(s: &[u8], at: usize, set: u64, k: u64) -> bool
 }
 
 // The sign is the top bit of the last byte.
+#[tactic(auto, using(crate::specs::Laws::not_negatives_from, crate::specs::Laws::sign_off))]
 pub fn not_negatives(s: &[u8], a: usize, n: usize) -> bool
     requires { (a + 16 * n ≤ length s.now) × (n ≤ 64) }
     ensures { result ≡ not_negatives s.now a n }
@@ -135,6 +137,7 @@ fn good_addresses(s: &Image) -> bool
     a & b & c & d & e & f
 }
 
+#[tactic(auto, unfolding(crate::specs::Good::good_defaults), using(crate::specs::Laws::known_tests))]
 fn good_defaults(s: &Image) -> bool
     requires { le 1 s.now 3 < 64 }
     ensures { result ≡ good_defaults s.now }
@@ -178,6 +181,7 @@ fn good_options(s: &Image, f: u64) -> bool
     a & b & c & d
 }
 
+#[tactic(auto, unfolding(crate::specs::Good::good_head), using(crate::specs::Laws::known_tests, crate::specs::Laws::token_address))]
 fn good_head(s: &Image) -> bool
     ensures { result ≡ good_head s.now }
 {
@@ -194,6 +198,7 @@ fn good_head(s: &Image) -> bool
     good_defaults(s) & good_options(s, f)
 }
 
+#[tactic(auto, unfolding(crate::specs::Good::good_cap), using(crate::specs::Laws::each_tested))]
 fn good_caps(s: &Image) -> bool
     ensures { result ≡ all (good_cap s.now) 64 }
 {
@@ -206,6 +211,7 @@ fn good_caps(s: &Image) -> bool
     true
 }
 
+#[tactic(auto, using(crate::specs::Laws::each_tested, crate::specs::Laws::seen_none))]
 fn fresh_keys(s: &Image, n: usize) -> bool
     requires { n ≤ 1088 }
     ensures { result ≡ all (fresh_key s.now) n }
@@ -224,6 +230,7 @@ fn fresh_keys(s: &Image, n: usize) -> bool
     true
 }
 
+#[tactic(auto, unfolding(crate::specs::Good::good_keys), using(crate::specs::Laws::known_tests))]
 fn good_keys(s: &Image) -> bool
     ensures { result ≡ good_keys s.now }
 {
@@ -280,6 +287,7 @@ fn good_token(s: &Image, t: usize) -> bool
     }
 }
 
+#[tactic(auto, using(crate::specs::Laws::each_tested))]
 fn good_tokens(s: &Image) -> bool
     ensures { result ≡ all (good_token s.now) 16 }
 {

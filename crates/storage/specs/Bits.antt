@@ -98,8 +98,8 @@ or_bit x k =
     (λ z. let a = masked_off x k z in let e = with_off x k z in omega arith)
     (λ o. let a = masked_on x k o in let e = with_on x k o in omega arith)
 
-pub and-not_bit : (x k : ℕ) → x < 2 ^ 64 → k < 64 → bit_and x (2 ^ 64 - 1 - 2 ^ k) ≡ without_bit x k
-and-not_bit x k b h =
+pub and_not_bit : (x k : ℕ) → x < 2 ^ 64 → k < 64 → bit_and x (2 ^ 64 - 1 - 2 ^ k) ≡ without_bit x k
+and_not_bit x k b h =
     let rest = and-not 64 (2 ^ k) x (pow_below k 64 h) b in
     let turned = and_comm x (2 ^ 64 - 1 - 2 ^ k) in
     let mask = and_comm (2 ^ k) x in

@@ -15,6 +15,7 @@ use amount::Amount;
 use image::{Address, Flag, Image, Token};
 use refusal::Refusal;
 
+#[tactic(auto, using(crate::specs::Room::there, crate::specs::Room::none_yet, crate::specs::Room::none_more))]
 fn is_tracked(img: &Image, k: u16) -> bool
     requires { Keys img.now }
     ensures { result ≡ tracked img.now (tracked_count img.now) k }
@@ -29,6 +30,7 @@ fn is_tracked(img: &Image, k: u16) -> bool
 }
 
 // Keys are distinct and below 1,088, so that there is room for one that is not tracked yet.
+#[tactic(auto, using(crate::specs::Kept::tracked_already, crate::specs::Kept::tracked_anew, crate::specs::Kept::key_room))]
 fn track_vault_key(img: &mut Image, k: u16)
     requires { Keys img.old × (k < 1088) }
     ensures { img.new ≡ track_key img.old k }
@@ -47,6 +49,7 @@ pub fn get_token_account_balance(img: &Image, token: Token, account: Address) ->
     amount::read_amount(img, image::credit_at(token, account))
 }
 
+#[tactic(auto, unfolding(crate::specs::Setters::set_credit), using(crate::specs::Kept::credit_keys))]
 pub fn set_token_account_balance(img: &mut Image, token: Token, account: Address, balance: Amount)
     requires { Keys img.old }
     ensures { img.new ≡ set_credit img.old token.address account.number (biased balance) }
@@ -57,6 +60,7 @@ pub fn set_token_account_balance(img: &mut Image, token: Token, account: Address
 }
 
 // The set with bit k, below 64, set.
+#[tactic(auto, using(crate::specs::Bits::shifted_one, crate::specs::Bits::or_bit))]
 pub fn with_bit(set: u64, k: u64) -> u64
     requires { k < 64 }
     ensures { result ≡ with_bit set k }
@@ -65,6 +69,7 @@ pub fn with_bit(set: u64, k: u64) -> u64
 }
 
 // The set with bit k, below 64, cleared.
+#[tactic(auto, using(crate::specs::Bits::shifted_one, crate::specs::Bits::and_not_bit))]
 pub fn without_bit(set: u64, k: u64) -> u64
     requires { k < 64 }
     ensures { result ≡ without_bit set k }
@@ -90,6 +95,7 @@ pub fn clear_flag(img: &mut Image, flag: Flag)
     fields::put16(img, image::FLAGS, without_bit(set, k) as u16);
 }
 
+#[tactic(auto, unfolding(crate::specs::Setters::set_cap), using(crate::specs::Kept::cap_keys))]
 pub fn set_token_max_limit(img: &mut Image, address: Address, limit: Amount)
     requires { Keys img.old }
     ensures { img.new ≡ set_cap img.old address.number (biased limit) }
@@ -100,6 +106,7 @@ pub fn set_token_max_limit(img: &mut Image, address: Address, limit: Amount)
     track_vault_key(img, 1024 + u16::from(address.number));
 }
 
+#[tactic(auto, unfolding(crate::specs::Setters::record_balance))]
 pub fn record_vault_balance(img: &mut Image, token: Token, sequence: u32, balance: Amount)
     ensures { img.new ≡ record_balance img.old token.address sequence (biased balance) }
 {
@@ -110,6 +117,7 @@ pub fn record_vault_balance(img: &mut Image, token: Token, sequence: u32, balanc
 }
 
 // 11 where the snapshot of this sequence shows another balance.
+#[tactic(auto, unfolding(fields::specs::Rules::verdict, crate::specs::Setters::snapshot_number), using(amount::specs::Order::ne_true, amount::specs::Order::ne_false))]
 pub fn check_vault_balance(
     img: &Image,
     token: Token,

@@ -1,5 +1,5 @@
 // The token table: a line a transfer, with its number and then the two holdings' low halves. Token 48 moves and takes a toll of 3, token 49 is frozen, the others are absent.
-#![tactic(auto, using(storage::specs::Facts::facts))]
+#![tactic(auto)]
 
 use amount::Amount;
 use image::{Address, Image, Token};
@@ -20,6 +20,7 @@ fn show(rt: &impl Print, image: &Image, token: Token, a: Address) -> io::Result<
 }
 
 // 30 where the image is not good.
+#[tactic(auto, using(storage::specs::Facts::facts))]
 fn moved(image: &mut Image, t: u8, from: Address, to: Address, n: u64) -> Result<(), Refusal> {
     if !image::good_image(image) {
         return Err(Refusal::InvalidImage);

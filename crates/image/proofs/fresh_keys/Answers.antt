@@ -1,12 +1,9 @@
 -- `image::fresh_keys` meets its contract.
-use Rattle.fields.specs.Logic.{all_none, all-step, all_stop, all_end}
+use Rattle.fields.specs.Logic.{all-step, all_stop}
 use Rattle.image.specs.Good.{fresh_key}
-use Rattle.image.specs.Laws.{seen_none, seen_step, stale_far, stale_seen, fresh_new}
+use Rattle.image.specs.Laws.{seen_step, stale_far, stale_seen, fresh_new}
 use borrow.Author.Rules.{rules}
 use Rattle.image.proofs.fresh_keys.Goals as goal
-
-pub loop-i-init : goal.loop-i-init
-loop-i-init c = (search rules, all_none (fresh_key c.args.s.now), seen_none c.args.s.now)
 
 pub returns-then-k-ge1088 : goal.returns-then-k-ge1088
 returns-then-k-ge1088 c = let x = c.args in let l = c.loop-i in all_stop (fresh_key x.s.now) l.i x.n (search rules) (stale_far x.s.now l.i c.get16-k.result c.get16-k.ensures c.if-k-ge1088.true)
@@ -16,6 +13,3 @@ returns-then-seen-k-ne0 c = let x = c.args in let l = c.loop-i in all_stop (fres
 
 pub loop-i-preserved : goal.loop-i-preserved
 loop-i-preserved c = let x = c.args in let l = c.loop-i in let k = c.get16-k.ensures in let n = c.get16-k.result in (search rules, all-step (fresh_key x.s.now) l.i l.invariant.1 (fresh_new x.s.now l.seen l.i n k (search rules) l.invariant.2 c.if-seen-k-ne0.false), seen_step x.s.now l.seen l.i n k (search rules) l.invariant.2)
-
-pub returns : goal.returns
-returns c = let l = c.loop-i in all_end (fresh_key c.args.s.now) l.i c.args.n (search rules) (search rules) l.invariant.1
