@@ -57,21 +57,12 @@ pub fn owner_role_check(img: &Image, caller: u8) -> Result<(), Refusal>
     )
 }
 
-// 1, 3.
-fn owner_check(img: &Image, caller: u8) -> Result<(), Refusal>
-    ensures { code result ≡ not_owner_number img.now caller }
-{
-    if !has_flag(img, Flag::Initialised) {
-        return Err(Refusal::NotInitialized);
-    }
-    owner_role_check(img, caller)
-}
-
 // 1, 3, 22.
 pub fn owner_gate(img: &Image, caller: u8, signers: u64) -> Result<(), Refusal>
     ensures { code result ≡ owner_number img.now caller signers }
 {
-    owner_check(img, caller)?;
+    initialised_check(img)?;
+    owner_role_check(img, caller)?;
     signed_check(signers, caller)
 }
 
@@ -95,21 +86,12 @@ pub fn insider_role_check(img: &Image, caller: u8) -> Result<(), Refusal>
     refusal::refuse_if(!is_insider(img, caller), Refusal::NotAuthorized)
 }
 
-// 1, 3, the operator let in too.
-fn insider_check(img: &Image, caller: u8) -> Result<(), Refusal>
-    ensures { code result ≡ not_insider_number img.now caller }
-{
-    if !has_flag(img, Flag::Initialised) {
-        return Err(Refusal::NotInitialized);
-    }
-    insider_role_check(img, caller)
-}
-
 // 1, 3, 22, the operator let in too.
 pub fn shared_gate(img: &Image, caller: u8, signers: u64) -> Result<(), Refusal>
     ensures { code result ≡ shared_number img.now caller signers }
 {
-    insider_check(img, caller)?;
+    initialised_check(img)?;
+    insider_role_check(img, caller)?;
     signed_check(signers, caller)
 }
 

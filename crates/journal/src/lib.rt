@@ -187,6 +187,7 @@ fn clear_entries(journal: &mut [u8], from: usize, to: usize)
     journal[24 * (from + 1)..24 * (to + 1)].fill(0);
 }
 
+// The casts, here and in `put_entry`, lose nothing below 65536; `try_from` would need an `unwrap` each.
 fn write_counts(journal: &mut [u8], counts: Counts)
     requires { (6 ≤ length journal.old) × (counts.calls < 65536) × (counts.entries < 65536) }
     ensures { journal.new ≡ put 2 (put 2 journal.old 2 counts.calls) 4 counts.entries }

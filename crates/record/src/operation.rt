@@ -45,6 +45,7 @@ pub enum Operation {
     Freeze,
 }
 
+// The one place where a number of the format becomes an operation.
 impl TryFrom<u8> for Operation {
     type Error = Refusal;
 

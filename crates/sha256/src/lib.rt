@@ -97,6 +97,7 @@ fn majority(x: u32, y: u32, z: u32) -> u32
     (x & y) ^ (x & z) ^ (y & z)
 }
 
+// The four sigmas of the standard, by its names.
 #[tactic(auto, unfolding(crate::specs::Sha256::big_sigma0), using(crate::proofs::Words::same_xor, crate::proofs::Words::rotation))]
 fn big_sigma0(x: u32) -> u32
     ensures { result ≡ big_sigma0 x }

@@ -77,6 +77,7 @@ pub fn without_bit(set: u64, k: u64) -> u64
     set & !(1 << k)
 }
 
+// This and `clear_flag` differ in the function that they call; a closure for it would be longer. Flags are below 64.
 pub fn set_flag(img: &mut Image, flag: Flag)
     requires { Good img.old }
     ensures { img.new ≡ put 2 img.old 0 (with_bit (flags img.old) (flag_bit flag)) }
@@ -101,7 +102,11 @@ pub fn set_token_max_limit(img: &mut Image, address: Address, limit: Amount)
     ensures { img.new ≡ set_cap img.old address.number (biased limit) }
 {
     let set = fields::get64(img, image::CAPPED_SET);
-    fields::put64(img, image::CAPPED_SET, with_bit(set, u64::from(address.number)));
+    fields::put64(
+        img,
+        image::CAPPED_SET,
+        with_bit(set, u64::from(address.number)),
+    );
     amount::write_amount(img, image::cap_at(address), limit);
     track_vault_key(img, 1024 + u16::from(address.number));
 }

@@ -15,6 +15,7 @@ pub fn read_full<R: Read>(reader: &mut R, buf: &mut [u8]) -> usize
     ensures bytes { Consumes (R.remaining reader.old) (R.remaining reader.new) (take result buf.new) }
 {
     let mut done = 0;
+    // A step is what a read gave, so that there is no range to go over.
     while done < buf.len() {
         let n = match reader.read(&mut buf[done..]) {
             Ok(n) => n,

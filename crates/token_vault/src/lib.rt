@@ -212,6 +212,7 @@ pub fn preview(
     write_answer(a, value, event_count)
 }
 
+// The four calls of a transaction, for one export of C each: each is a step of its own.
 fn try_begin(image: &mut [u8], journal: &mut [u8]) -> Result<(), Refusal>
     ensures { JournalIs (vault_step (vault image.old journal.old) Call.begin) (code result) image.new journal.new }
 {

@@ -161,6 +161,7 @@ fn write_records<O: Write>(output: &mut O, asked: Records) -> io::Result<u64>
     let mut buffer = [0u8; 57344];
     let mut rest = asked;
     let mut made = 0u64;
+    // A step is what a piece holds, so that there is no range to go over.
     while rest.left > 0 {
         let n = rest.left.min(128);
         let piece = rest.next_piece(n, &mut buffer);

@@ -43,6 +43,7 @@ struct Draws {
     reached: u64,
 }
 
+// A draw is below its bound, so that the casts lose nothing.
 #[tactic(auto, unfolding(crate::specs::Trial::draws_from, crate::specs::Generator::steps))]
 fn six_draws(last: u64) -> Draws
     ensures { (draws_of result ≡ draws_from last) × (result.reached ≡ steps 6 last) }
