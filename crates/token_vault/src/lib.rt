@@ -1,5 +1,5 @@
 // The token vault: its public calls. Any bytes of any length get an answer.
-#![tactic(auto, unfolding(fields::specs::Rules::chain, fields::specs::Rules::or_else, crate::specs::Public::state_number, crate::specs::Public::kept_number, crate::specs::Public::kept_image, crate::specs::Public::kept_journal, crate::specs::Vault::call_number))]
+#![tactic(auto, unfolding(fields::specs::Rules::chain, fields::specs::Rules::or_else, crate::specs::Public::state_number, crate::specs::Public::kept_number, crate::specs::Public::kept_image, crate::specs::Public::kept_journal, crate::specs::Vault::call_number), using(crate::proofs::Accepted::form_zero))]
 
 ghost use Rattle.std.specs.Prelude.{◌≡◌, ◌<◌, true, false, [], IfOk};
 ghost use Rattle.amount.specs.Biased.{biased};
@@ -191,11 +191,13 @@ fn answer_preview(image: &[u8], rec: &[u8], events: &mut [u8]) -> Answer
     let head = call_check(rec, events)?;
     let image: &Image = image.as_array().unwrap();
     let events: &mut Buffer = events.as_mut_array().unwrap();
-    if let Operation::View(view) = head.operation {
-        return run_view(image, view, head, events);
+    match head.operation {
+        Operation::View(view) => run_view(image, view, head, events),
+        _ => {
+            let rec: &Record = rec.as_array().unwrap();
+            preview_operation(image, rec, head, events)
+        }
     }
-    let rec: &Record = rec.as_array().unwrap();
-    preview_operation(image, rec, head, events)
 }
 
 // A preview: what a call without a journal would answer. The image is lent to read, and there is no journal.

@@ -43,21 +43,21 @@ returns-in-View c =
     (looked x.image.now x.rec.now x.events.now c.in_ok-head.head c.in-View.view _ (sym h.number) h.head c.in-View.is w.0 w.1)
 
 pub unwrap-rec-requires : goal.unwrap-rec-requires
-unwrap-rec-requires c = c.as_array-2.ensures.variant.1 (call_long _ _ (sym c.in_ok-head.ensures.number)).0
+unwrap-rec-requires c = c.as_array-in_default.ensures.variant.1 (call_long _ _ (sym c.in_ok-head.ensures.number)).0
 
 pub preview_operation-requires : goal.preview_operation-requires
 preview_operation-requires c =
     let i = rw c.unwrap-image.ensures at c.as_array.ensures in
     let e = rw c.unwrap-events.ensures at c.as_mut_array.ensures in
-    let r = rw c.unwrap-rec.ensures at c.as_array-2.ensures in
+    let r = rw c.unwrap-rec.ensures at c.as_array-in_default.ensures in
     rw (i.cases.same, e.cases.same, r.cases.same)
     (facts _ (sym c.good_image.ensures ∙ good_pick _ c.in_ok-refuse_if.ensures), sym c.in_ok-head.ensures.number, c.in_ok-head.ensures.head)
 
-pub returns : goal.returns
-returns c =
+pub returns-in_default : goal.returns-in_default
+returns-in_default c =
     let x = c.args in
     let i = rw c.unwrap-image.ensures at c.as_array.ensures in
     let e = rw c.unwrap-events.ensures at c.as_mut_array.ensures in
-    let r = rw c.unwrap-rec.ensures at c.as_array-2.ensures in
+    let r = rw c.unwrap-rec.ensures at c.as_array-in_default.ensures in
     rw (preview_good x.image.now x.rec.now x.events.now (sym c.good_image.ensures ∙ good_pick _ c.in_ok-refuse_if.ensures))
     (rw (i.cases.same, e.cases.same, r.cases.same) at c.preview_operation.ensures)
