@@ -1,5 +1,5 @@
 // The token vault: its public calls. Any bytes of any length get an answer.
-#![tactic(auto, unfolding(fields::specs::Rules::chain, fields::specs::Rules::or_else, crate::specs::Public::state_number, crate::specs::Public::kept_number, crate::specs::Public::kept_image, crate::specs::Public::kept_journal, crate::specs::Vault::call_number))]
+#![tactic(auto, unfolding(fields::specs::Rules::chain, fields::specs::Rules::or_else, crate::specs::Public::state_number, crate::specs::Public::kept_number, crate::specs::Public::kept_image, crate::specs::Public::kept_journal, crate::specs::Vault::call_number), using(crate::proofs::Accepted::form_zero))]
 
 ghost use Rattle.std.specs.Prelude.{◌≡◌, ◌<◌, true, false, [], IfOk};
 ghost use Rattle.amount.specs.Biased.{biased};
@@ -115,10 +115,8 @@ fn state_check(is_image_good: bool, journal: &[u8]) -> Result<(), Refusal>
     ensures { code result ≡ state_number is_image_good journal.now }
 {
     refusal::refuse_if(!is_image_good, Refusal::InvalidImage)?;
-    refusal::refuse_if(
-        !journal::good_journal(journal, CELLS),
-        Refusal::InvalidJournal,
-    )
+    let is_journal_good = journal::good_journal(journal, CELLS);
+    refusal::refuse_if(!is_journal_good, Refusal::InvalidJournal)
 }
 
 // 32, 33.
@@ -175,13 +173,19 @@ pub fn call_without_journal(
     call(image, &mut journal, record, events, value, event_count)
 }
 
-// An operation that is no view, on a copy of the image.
+// A view reads the image, any other operation runs on a copy of it.
+#[tactic(auto, using(crate::proofs::Accepted::form_zero, record::specs::Head::head_token, record::specs::Head::head_caller, crate::proofs::Called::looked))]
 fn preview_operation(image: &Image, rec: &Record, head: Head, events: &mut Buffer) -> Answer
     requires { Good image.now × (call_number rec.now events.old ≡ 0) × HeadOf rec.now head }
     ensures { Answers (op image.now rec.now events.old).answer result events.new }
 {
-    let mut copy = *image;
-    try_operation(&mut copy, rec, head, events)
+    match head.operation {
+        Operation::View(view) => run_view(image, view, head, events),
+        _ => {
+            let mut copy = *image;
+            try_operation(&mut copy, rec, head, events)
+        }
+    }
 }
 
 fn answer_preview(image: &[u8], rec: &[u8], events: &mut [u8]) -> Answer
@@ -190,11 +194,8 @@ fn answer_preview(image: &[u8], rec: &[u8], events: &mut [u8]) -> Answer
     refusal::refuse_if(!image::good_image(image), Refusal::InvalidImage)?;
     let head = call_check(rec, events)?;
     let image: &Image = image.as_array().unwrap();
-    let events: &mut Buffer = events.as_mut_array().unwrap();
-    if let Operation::View(view) = head.operation {
-        return run_view(image, view, head, events);
-    }
     let rec: &Record = rec.as_array().unwrap();
+    let events: &mut Buffer = events.as_mut_array().unwrap();
     preview_operation(image, rec, head, events)
 }
 

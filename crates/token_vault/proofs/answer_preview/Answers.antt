@@ -4,7 +4,7 @@ use Rattle.storage.specs.Facts.{facts}
 use Rattle.refusal.specs.Laws.{some_number}
 use Rattle.outcome.specs.Outcome.{silent}
 use Rattle.token_vault.proofs.Previewed.{preview_good, preview_30, preview_malformed}
-use Rattle.token_vault.proofs.Called.{good_pick, bad_pick, stopped, looked, head_fields}
+use Rattle.token_vault.proofs.Called.{good_pick, bad_pick, stopped}
 use Rattle.token_vault.proofs.Accepted.{call_long}
 use Rattle.token_vault.proofs.answer_preview.Goals as goal
 
@@ -24,23 +24,6 @@ unwrap-image-requires c = c.as_array.ensures.variant.1 (facts _ (sym c.good_imag
 
 pub unwrap-events-requires : goal.unwrap-events-requires
 unwrap-events-requires c = c.as_mut_array.ensures.variant.1 (call_long _ _ (sym c.in_ok-head.ensures.number)).1
-
-pub run_view-requires : goal.run_view-requires
-run_view-requires c =
-    let x = c.args in
-    let i = rw c.unwrap-image.ensures at c.as_array.ensures in
-    let h = c.in_ok-head.ensures in
-    let f = head_fields x.rec.now x.events.now _ c.in-View.view h.number h.head c.in-View.is in
-    (rw i.cases.same (facts _ (sym c.good_image.ensures ∙ good_pick _ c.in_ok-refuse_if.ensures)), f.0, f.1)
-
-pub returns-in-View : goal.returns-in-View
-returns-in-View c =
-    let x = c.args in
-    let i = rw c.unwrap-image.ensures at c.as_array.ensures in
-    let h = c.in_ok-head.ensures in
-    let w = rw i.cases.same at c.run_view.ensures in
-    rw (preview_good x.image.now x.rec.now x.events.now (sym c.good_image.ensures ∙ good_pick _ c.in_ok-refuse_if.ensures))
-    (looked x.image.now x.rec.now x.events.now c.in_ok-head.head c.in-View.view _ (sym h.number) h.head c.in-View.is w.0 w.1)
 
 pub unwrap-rec-requires : goal.unwrap-rec-requires
 unwrap-rec-requires c = c.as_array-2.ensures.variant.1 (call_long _ _ (sym c.in_ok-head.ensures.number)).0

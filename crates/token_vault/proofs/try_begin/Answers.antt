@@ -1,5 +1,4 @@
 -- `token_vault::try_begin` meets its contract.
-use Rattle.image.specs.Layout.{cells}
 use Rattle.journal.specs.Calls.{Call}
 use Rattle.token_vault.proofs.Called.{good_state, journal_refused, journal_step, vault_begin}
 use Rattle.refusal.specs.Laws.{some_number, code_passed}
@@ -8,9 +7,6 @@ use Rattle.token_vault.proofs.try_begin.Goals as goal
 
 pub returns-in_err-state_check : goal.returns-in_err-state_check
 returns-in_err-state_check c = rw (code_passed _ _ c.from_residual.ensures) (journal_refused _ _ c.good_image-is_image_good.ensures c.in_err-state_check.ensures Call.begin (some_number _))
-
-pub begin-requires : goal.begin-requires
-begin-requires c = record { cells = cells; good = (good_state _ _ c.good_image-is_image_good.ensures c.in_ok-state_check.ensures refl).1 }
 
 pub returns : goal.returns
 returns c = let x = c.args in let (g, h) = good_state _ _ c.good_image-is_image_good.ensures c.in_ok-state_check.ensures refl in (journal_step (vault_begin x.image.now x.journal.now g h) (c.begin.ensures x.image.now))

@@ -1,11 +1,7 @@
 -- `token_vault::try_operation` meets its contract.
 use mathlib.Core.Path.{sym, ◌∙◌}
 use Rattle.token_vault.proofs.Called.{tried, tried_refused}
-use Rattle.token_vault.proofs.Accepted.{form_zero}
 use Rattle.token_vault.proofs.try_operation.Goals as goal
-
-pub operate-answer-requires : goal.operate-answer-requires
-operate-answer-requires c = (c.requires.0, form_zero _ _ c.requires.1, c.requires.2, c.clear_events.ensures)
 
 pub returns-then-is_err : goal.returns-then-is_err
 returns-then-is_err c = tried_refused c.args.copy.now c.args.rec.now _ c.requires.1 _ (sym c.is_err.ensures.value ∙ c.if-is_err.true) c.operate-answer.ensures c.clear_events-then-is_err.ensures

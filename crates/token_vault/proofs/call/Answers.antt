@@ -1,7 +1,0 @@
--- `token_vault::call` meets its contract.
-use Rattle.events.specs.Splice.{amount_bytes}
-use mathlib.Core.Path.{ap, ◌∙◌}
-use Rattle.token_vault.proofs.call.Goals as goal
-
-pub returns : goal.returns
-returns c = let e = c.answer_call-a.ensures in let w = c.write_answer.ensures in record { numbered = w.0 ∙ e.numbered; valued = w.1 ∙ ap amount_bytes e.valued; counted = w.2 ∙ e.counted; written = e.written; changed = e.changed; entered = e.entered }
