@@ -101,7 +101,11 @@ pub fn set_token_max_limit(img: &mut Image, address: Address, limit: Amount)
     ensures { img.new ≡ set_cap img.old address.number (biased limit) }
 {
     let set = fields::get64(img, image::CAPPED_SET);
-    fields::put64(img, image::CAPPED_SET, with_bit(set, u64::from(address.number)));
+    fields::put64(
+        img,
+        image::CAPPED_SET,
+        with_bit(set, u64::from(address.number)),
+    );
     amount::write_amount(img, image::cap_at(address), limit);
     track_vault_key(img, 1024 + u16::from(address.number));
 }
