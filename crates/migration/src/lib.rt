@@ -77,6 +77,7 @@ fn execute_check(img: &Image, head: Head) -> Result<(), Refusal>
 }
 
 // 23; a holding of 0 makes no transfer.
+#[tactic(auto, unfolding(crate::specs::Migration::migrate_number, crate::specs::Migration::migrate_holding), using(token::specs::Laws::transfer_done, refusal::specs::Laws::on_ok))]
 fn migrate_holding(img: &mut Image, held: Amount) -> Result<(), Refusal>
     requires { Good img.old × (initialised img.old ≡ 1) × (biased held ≡ vault_balance img.old) }
     ensures value { code result ≡ migrate_number img.old }
@@ -102,6 +103,7 @@ fn clear_migration(img: &mut Image)
     fields::put64(img, image::EXECUTABLE_AT, 0);
 }
 
+#[tactic(auto, unfolding(fields::specs::Rules::chain, fields::specs::Rules::or_else, crate::specs::Migration::execute_number, crate::specs::Migration::execute_outcome), using(crate::proofs::Laws::checks_free, crate::proofs::Laws::held_range, crate::proofs::Laws::good_migrate, outcome::specs::Outcome::refused, outcome::specs::Outcome::accepted))]
 pub fn execute_emergency_migration(img: &mut Image, head: Head, events: &mut Buffer) -> Answer
     requires { Good img.old × (events.old ≡ event_buffer []) }
     ensures { Does (execute_outcome img.old head.caller head.signers head.timestamp) result img.new events.new }
