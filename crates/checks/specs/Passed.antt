@@ -1,11 +1,10 @@
 -- What a check that gave 0 says: its rules all fail.
-use Rattle.std.specs.Prelude.{◌≡◌, List, ℕ, Bool, true, false, not, eqb, ltb, leb}
+use Rattle.std.specs.Prelude.{◌≡◌, List, ℕ, Bool, true, false, not, ltb, leb}
 use Rattle.std.proofs.Math.Path.{refl, sym}
 use Rattle.std.proofs.Common.{◌∙◌, ltb-true, ltb-false, le-leb}
 use Rattle.std.proofs.lemmas.Bool.{lt-leb}
 use Rattle.image.specs.Layout.{bit, flags, owner, initialised}
 use Rattle.fields.specs.Rules.{AllFail, free, unlinked}
-use Rattle.amount.specs.Biased.{num}
 use Rattle.checks.specs.Checks.{flag, initialised_bit, initialised_rules, initialised_number, owner_rules, not_owner_number, owner_number, insider_rules, not_insider_number, shared_number, amount_rules, amount_number, deposit_amount_rules, deposit_amount_number, limit_rules, limit_number}
 
 pub flag_is : (k : ℕ) (l : List ℕ) → flag k l ≡ bit (flags l) k
@@ -52,19 +51,6 @@ shared_free l caller signers e z =
     let u = unlinked _ (sym e ∙ z) in
     let (i, _) = not-insider_free l caller refl u.0 in
     sym (flag_is initialised_bit l) ∙ i
-
--- a number that is 1 or 0, as a test
-pub set_bit : {n : ℕ} (t : Bool) → num t ≡ n → t ≡ not (eqb n 0)
-set_bit true e = rw (← e) refl
-set_bit false e = rw (← e) refl
-
-pub one_bit : {n : ℕ} (t : Bool) → num t ≡ n → t ≡ eqb n 1
-one_bit true e = rw (← e) refl
-one_bit false e = rw (← e) refl
-
-pub clear_bit : {n : ℕ} (t : Bool) → num t ≡ n → not t ≡ not (eqb n 1)
-clear_bit true e = rw (← e) refl
-clear_bit false e = rw (← e) refl
 
 -- the test of an amount that is not above another
 pub not_above : (a b : ℕ) → not (ltb a b) ≡ leb b a

@@ -146,10 +146,6 @@ stops_at calls es k l t f =
       earlier = ap (except_call calls) (sym (take-append-drop k es)) ∙ except_call-append calls (take k es) (drop k es) ∙ rw (f.1, t.1) (append-nil (take k es));
     }
 
-pub stops_none : (calls : ℕ) (es : List Entry) (k : ℕ) → k ≤ 0 → Taken calls es k → Earlier calls es k
-unfolding of_call except_call
-stops_none calls es k h t = let z : k ≡ 0 = omega arith in stops_at calls es k (omega arith) t (rw z (refl, refl))
-
 le_of : (a c : ℕ) → a ≤ suc c → (a ≡ suc c → ⊥) → a ≤ c
 le_of a c h n = omega arith
 

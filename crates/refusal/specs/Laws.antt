@@ -61,10 +61,6 @@ pub code_passed : {T : Type 0} (e : Refusal) (r : Result T Refusal) → IsErr r 
 code_passed e (Ok x) (f, g) = cc
 code_passed e (Err y) (f, g) = ap number_of g
 
--- and where check k of a list refused
-pub passed_on : {T : Type 0} (xs : List ℕ) (k : ℕ) (e : Refusal) (r : Result T Refusal) → BeforeLink k xs → IsErr r × IsErrAnd r (λ y. y ≡ e) → number_of e ≡ link_at k xs → code r ≡ chain xs
-passed_on xs k e r b p h = code_passed e r p ∙ refused_at xs k e b h
-
 -- what holds where the number is 0 holds of an `Ok`
 pub on_ok : {T : Type 0} {P : Type 0} (r : Result T Refusal) → (code r ≡ 0 → P) → OnOk r P
 on_ok (Ok x) h = h refl

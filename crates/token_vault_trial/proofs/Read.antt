@@ -21,10 +21,6 @@ pub is_digit-ascii : (b : ℕ) → is_digit b ≡ is_ascii_digit b
 unfolding is_digit
 is_digit-ascii b = and_same (leb 48 b) (leb b 57)
 
-pub digit_bounds : (b : ℕ) → is_digit b ≡ true → (48 ≤ b) × (b ≤ 57)
-unfolding is_digit
-digit_bounds b e = (leb-true 48 b (and_l _ _ e), leb-true b 57 (and_r _ _ e))
-
 -- the byte at i of the text t, behind digits that make n
 module _ (t : List ℕ) (i n : ℕ) (h : i < length t) where
   pub no_digit : is_digit (get_or t i 0) ≡ false → digits_after n (drop i t) ≡ malformed

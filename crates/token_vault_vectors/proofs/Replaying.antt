@@ -151,9 +151,6 @@ next_known {head_read} l =
     ⊎_elim (λ z. list_known (t.whole z)) (λ m. rw (t.other m).0 (head_known head_read l.head)) (zero_or (head_fault head_read l.head)))
     (zero_or head_read)
 
-pub fault_known : {fault : ℕ} → IsFault fault → fault ≤ 13
-fault_known {fault} f = leb-true fault 13 (next_known f.listed)
-
 pub list_faulty : {head_read taken fault : ℕ} {is_written : Bool} → NextList head_read taken fault is_written → (fault ≡ 0 → ⊥) → IsFault fault
 list_faulty l n = record { head_read = _; taken = _; is_written = _; listed = l; some = omega arith }
 
