@@ -1,4 +1,4 @@
-// The operations by their names: `operate` for those that may change the image, `look` for the views.
+// The operations by their names: `operate` runs any of them, `look` a view alone.
 #![tactic(auto, unfolding(crate::specs::Operations::outcome_of, record::specs::Form::reads_caller, record::specs::Form::reads_token, record::specs::Form::reads_other, record::specs::Form::reads_flag, record::specs::Form::reads_items, record::specs::Form::member), using(record::specs::Head::head_caller, record::specs::Head::head_token, record::specs::Head::head_other, record::specs::Head::head_flag, record::specs::Head::head_count, record::specs::Head::head_item, crate::specs::Laws::view_does))]
 
 ghost use Rattle.std.specs.Prelude.{◌≡◌, ◌<◌, true, []};

@@ -57,7 +57,7 @@ fn run_view(image: &Image, view: View, head: Head, events: &mut Buffer) -> Answe
     operations::look(image, view, head)
 }
 
-// Any other operation on good bytes, on a copy of the image.
+// An operation on good bytes, on a copy of the image.
 fn try_operation(copy: &mut Image, rec: &Record, head: Head, events: &mut Buffer) -> Answer
     requires { Good copy.old × (call_number rec.now events.old ≡ 0) × HeadOf rec.now head }
     ensures { Tries (op copy.old rec.now events.old) result copy.new events.new }
