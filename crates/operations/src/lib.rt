@@ -10,10 +10,15 @@ ghost use Rattle.events.specs.Event.{event_buffer};
 ghost use Rattle.outcome.specs.Outcome.{Does, Views};
 ghost use Rattle.operations.specs.Operations.{outcome_of, view_outcome};
 
+use deposits::deposit_with_failure_report;
 use events::Buffer;
 use image::Image;
+use migration::{
+    cancel_emergency_migration, execute_emergency_migration, initiate_emergency_migration,
+};
 use outcome::Answer;
 use record::{Head, Operation, Record, View};
+use settings::set_operator_withdraw_limit;
 
 pub fn operate(img: &mut Image, rec: &Record, head: Head, events: &mut Buffer) -> Answer
     requires { Good img.old × (form_number rec.now ≡ 0) × HeadOf rec.now head × (events.old ≡ event_buffer []) }
@@ -28,12 +33,8 @@ pub fn operate(img: &mut Image, rec: &Record, head: Head, events: &mut Buffer) -
         Operation::WithdrawBatch => payouts::withdraw_batch(img, rec, head, events),
         Operation::DepositToken => deposits::deposit_token(img, head, events),
         Operation::WithdrawToken => payouts::withdraw_token(img, head, events),
-        Operation::DepositWithFailureReport => {
-            deposits::deposit_with_failure_report(img, head, events)
-        }
-        Operation::SetOperatorWithdrawLimit => {
-            settings::set_operator_withdraw_limit(img, head, events)
-        }
+        Operation::DepositWithFailureReport => deposit_with_failure_report(img, head, events),
+        Operation::SetOperatorWithdrawLimit => set_operator_withdraw_limit(img, head, events),
         Operation::SetLimit => settings::set_limit(img, head, events),
         Operation::SetTokenMaxLimit => settings::set_token_max_limit(img, head, events),
         Operation::SetOperator => settings::set_operator(img, head, events),
@@ -44,15 +45,9 @@ pub fn operate(img: &mut Image, rec: &Record, head: Head, events: &mut Buffer) -
         Operation::Pause => settings::pause(img, head, events),
         Operation::Unpause => settings::unpause(img, head, events),
         Operation::ApproveToken => setup::approve_token(img, head, events),
-        Operation::InitiateEmergencyMigration => {
-            migration::initiate_emergency_migration(img, head, events)
-        }
-        Operation::ExecuteEmergencyMigration => {
-            migration::execute_emergency_migration(img, head, events)
-        }
-        Operation::CancelEmergencyMigration => {
-            migration::cancel_emergency_migration(img, head, events)
-        }
+        Operation::InitiateEmergencyMigration => initiate_emergency_migration(img, head, events),
+        Operation::ExecuteEmergencyMigration => execute_emergency_migration(img, head, events),
+        Operation::CancelEmergencyMigration => cancel_emergency_migration(img, head, events),
         Operation::View(view) => look(img, view, head),
         Operation::OutsideMove => moves::outside_move(img, head, events),
         Operation::Freeze => moves::freeze(img, head, events),
