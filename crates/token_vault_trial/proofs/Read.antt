@@ -3,13 +3,13 @@ use mathlib.Core.Path.{◌≡◌, refl}
 use mathlib.Core.Bool.{Bool, true, false, ◌&&◌}
 use Rattle.std.specs.Char.{is_ascii_digit}
 use mathlib.Core.List.{List}
-use Prim.Native.Nat.{ℕ, suc, ◌+◌, ◌*◌, ◌-◌, ◌^◌, ◌<◌, ◌≤◌}
+use Prim.Native.Nat.{ℕ, suc, ◌+◌, ◌*◌, ◌-◌, ◌^◌, ◌<◌}
 use native.Mathlib.Omega.{arith}
-use borrow.Author.Tests.{leb-true, eq-eqb, ne_eqb, lt-ltb, le-ltb}
+use borrow.Author.Tests.{eq-eqb, ne_eqb, lt-ltb, le-ltb}
 use lib.Dec.{ltb, leb}
 use lib.ListN.{length, get_or, drop}
 use lib.Seq.{drop-cons}
-use Rattle.fields.specs.Logic.{◌and◌, ◌or◌, and_l, and_r}
+use Rattle.fields.specs.Logic.{◌and◌, ◌or◌}
 use Rattle.token_vault_trial.specs.Arguments.{malformed, is_digit, digits_after, is_ill_begun, read_decimal}
 
 and_same : (a b : Bool) → (a and b) ≡ (a && b)

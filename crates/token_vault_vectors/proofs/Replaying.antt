@@ -8,7 +8,6 @@ use native.Mathlib.Omega.{arith}
 use lib.Dec.{leb}
 use lib.ListN.{length, take, get_or, replicate, length-append}
 use lib.Seq.{take_at, length-take-le}
-use borrow.Author.Tests.{leb-true}
 use Rattle.fields.specs.Bytes.{le}
 use Rattle.fields.specs.Rules.{passed, free, unlinked, verdict_in, chain_in}
 use Rattle.journal.specs.Calls.{State}
