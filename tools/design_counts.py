@@ -14,7 +14,7 @@ root = pathlib.Path(arguments[0] if arguments else ".")
 sources = sorted(root.glob("crates/*/src/*.rt"))
 
 
-def lines(pattern, text_of=None):
+def lines(pattern):
     """Each source line that matches, as file:line: text."""
     found = []
     for path in sources:
@@ -27,11 +27,19 @@ def lines(pattern, text_of=None):
 def functions():
     """Each function as (file, name, signature with clauses, body)."""
     found = []
+    start = re.compile(r'^( *)(?:pub(?:\(crate\))? )?(?:extern "C" )?fn (\w+)')
     for path in sources:
-        text = path.read_text()
-        for match in re.finditer(r"(?m)^( *)(?:pub )?(?:extern \"C\" )?fn (\w+).*?^\1\{\n(.*?)^\1\}$", text, re.S):
-            head = match.group(0).split("\n" + match.group(1) + "{\n")[0]
-            found.append((str(path.relative_to(root)), match.group(2), head, match.group(3)))
+        text = path.read_text().split("\n")
+        for number, line in enumerate(text):
+            match = start.match(line)
+            if not match:
+                continue
+            begin = number
+            while not text[begin].endswith("{"):
+                begin += 1
+            end = text.index(match.group(1) + "}", begin)
+            head = "\n".join(text[number:begin + 1]).rstrip("{").rstrip()
+            found.append((str(path.relative_to(root)), match.group(2), head, "\n".join(text[begin + 1:end])))
     return found
 
 
@@ -53,28 +61,51 @@ def shape(head, body):
     return " ".join(out)
 
 
+def parameters(head):
+    """The parameters of a function's signature, each as (name, type)."""
+    signature = re.split(r"->|\brequires\b|\bensures\b", head)[0]
+    return re.findall(r"([\w»«]+): ([^,)]+)", signature)
+
+
+def enums():
+    """Enums of two variants of which one or both hold one value: the shape of Option or Result."""
+    found = []
+    for path in sources:
+        for match in re.finditer(r"(?m)^(?:pub )?enum (\w+)[^{]*\{\n(.*?)^\}", path.read_text(), re.S):
+            variants = re.findall(r"(?m)^    (\w+)(\([^)]*\))?,$", match.group(2))
+            if len(variants) == 2 and any(payload for _, payload in variants):
+                found.append(f"{path.relative_to(root)}: {match.group(1)}")
+    return found
+
+
 every = functions()
 point = collections.OrderedDict()
-point["1 own enums of the shape of Option or Result"] = lines(r"^\s*(Value\(\w+\)|Overflow|Nothing|Missing),$")
-point["1 a flag or a number beside a value in a struct"] = lines(r"^\s+(pub )?(is_number|is_written|number|fault): (bool|u8|u32),$")
+point["1 own enums of the shape of Option or Result"] = enums()
+point["1 fields of structs that are a flag, or a number of a refusal or kind"] = lines(
+    r"^\s+(pub )?((is|has)_\w+|number|fault|refusal|error|kind|operation|flag): (bool|u8|u16|u32|u64|usize),$")
+point["1 a fault beside a result in a struct"] = lines(r"^\s+(pub )?\w+: Option<Fault>,$")
 point["1 numbers of refusals and faults returned"] = lines(r"\breturn [1-9][0-9]*;")
-point["1 tests of such a number"] = lines(r"\bif [\w.]+ [!=]= 0 \{$|-> u8 \{?$.*0$")
-point["1 matches over numbers of kinds"] = lines(r"^\s*([0-9]+ \| )*[0-9]+ => ")
+point["1 tests of a number against 0"] = lines(r"\bif [\w.]+ [!=]= 0 \{$|-> u8 \{?$.*0$")
+point["1 arms of matches over numbers of kinds"] = lines(r"^\s*([0-9]+ \| )*[0-9]+ => ")
 groups = collections.defaultdict(list)
 for file, name, head, body in every:
     s = shape(head, body)
     if len(s.split()) >= 30:
         groups[s].append(f"{file}: {name}")
-point["2 functions that differ in names, numbers and widths alone"] = [
+point["2 groups of functions that differ in names, numbers and widths alone"] = [
     "; ".join(g) for g in groups.values() if len(g) > 1]
-point["3 loops that count by hand"] = lines(r"^\s*(while\b|loop \{)")
+point["3 while and loop"] = lines(r"^\s*(while\b|loop \{)")
+point["3 loops over a range whose number is multiplied to a place"] = [
+    f"{file}: {name}" for file, name, _, body in every
+    for variable in re.findall(r"\bfor (\w+) in [^{]*\.\.", body)
+    if re.search(rf"\b\d+ \* \(?{variable}\b|\w+ \* {variable}\b|\b{variable} \* \d", body)]
 point["4 casts by as"] = lines(r"\bas (u8|u16|u32|u64|usize|i64|i128|u128)\b")
-point["4 equality, order and conversion by hand"] = [
+point["4 equality, order, conversion and printing by hand"] = [
     f"{file}: {name}" for file, name, _, _ in every
-    if name in ("wide", "flag", "less", "below", "differ", "same", "sign", "from_u64", "zero", "line", "truth", "halves")]
+    if name in ("wide", "flag", "less", "below", "differ", "same", "sign", "from_u64", "zero", "line", "truth", "halves",
+                "equal", "copy", "of", "bit", "print_bytes", "end")]
 point["5 functions of six parameters and more"] = [
-    f"{file}: {name}" for file, name, head, _ in every
-    if len(re.findall(r"[\w»«]+: [^,)]+", head.split("->")[0].split("requires")[0].split("ensures")[0])) >= 6]
+    f"{file}: {name}" for file, name, head, _ in every if len(parameters(head)) >= 6]
 facts = collections.defaultdict(set)
 for file, name, head, _ in every:
     for clause in re.findall(r"requires(?: \w+)? \{ (.*) \}", head):
@@ -82,9 +113,14 @@ for file, name, head, _ in every:
             facts[fact.strip("() ")].add(f"{file}: {name}")
 point["5 facts required by three functions and more"] = [
     f"{fact} ({len(where)})" for fact, where in sorted(facts.items()) if len(where) >= 3]
-point["6 writers with an index beside the buffer"] = [
-    f"{file}: {name}" for file, name, head, _ in every if re.search(r"out: &mut \[u8[^\]]*\][^)]*(at: usize)?[^)]*\) -> usize", head)]
-point["7 matches that pick a function to run"] = lines(r"^\s*([0-9]+|_|\w+::\w+) => [\w:]+\(.*\),$")
+point["6 buffers with a place or a length that was read beside them"] = [
+    f"{file}: {name}" for file, name, head, _ in every
+    if not file.endswith("fields/src/lib.rt")
+    and any(t.startswith(("&[u8", "&mut [u8", "&Image", "&mut Image")) for _, t in parameters(head))
+    and any(t == "usize" and re.fullmatch(r"at|a|n|i|count|from|to|read|\w+_read", p) for p, t in parameters(head))]
+point["7 arms of matches that pick a function to run"] = [
+    place for place in lines(r"^\s*([0-9]+|_|\w+::\w+(\(\w+\))?) => [\w:]+\(.*\),$")
+    if not re.search(r"=> (Ok|Some|Err)\(", place)]
 answers = sorted(root.glob("crates/*/proofs/**/Answers.antt"))
 point["8 answers"] = [f"{p.relative_to(root)}: {m}" for p in answers for m in re.findall(r"(?m)^pub ([\w-]+) :", p.read_text())]
 
