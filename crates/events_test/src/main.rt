@@ -22,7 +22,7 @@ fn rest_is_zero(buffer: &Buffer, i: usize) -> bool
 {
     let at = EVENT_LENGTH * i;
     let end = at + EVENT_LENGTH;
-    fields::are_zero(buffer, 0, at) && fields::are_zero(buffer, end, LENGTH - end)
+    fields::are_zero(&buffer[..at]) && fields::are_zero(&buffer[end..])
 }
 
 fn show(rt: &impl Print, i: usize, e: Event) -> io::Result<()>

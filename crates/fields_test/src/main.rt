@@ -53,11 +53,11 @@ fn zeros(rt: &impl Print, t: &mut [u8]) -> io::Result<()>
     requires { length t.old ≡ 16 }
 {
     t.fill(0);
-    truth(rt, fields::are_zero(t, 0, 16))?;
+    truth(rt, fields::are_zero(t))?;
     fields::put8(t, 7, 128);
-    truth(rt, fields::are_zero(t, 0, 7))?;
-    truth(rt, fields::are_zero(t, 0, 8))?;
-    truth(rt, fields::are_zero(t, 8, 8))?;
+    truth(rt, fields::are_zero(&t[..7]))?;
+    truth(rt, fields::are_zero(&t[..8]))?;
+    truth(rt, fields::are_zero(&t[8..]))?;
     halves(rt, t)
 }
 

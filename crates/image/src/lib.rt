@@ -163,7 +163,7 @@ fn good_options(s: &Image) -> bool
     a & b & c & d
 }
 
-#[tactic(auto, unfolding(crate::specs::Flags::flag, crate::specs::Good::good_head), using(crate::specs::Laws::known_tests, crate::specs::Laws::token_address, crate::specs::Flags::test_is))]
+#[tactic(auto, unfolding(crate::specs::Flags::flag, crate::specs::Good::good_head), using(crate::specs::Laws::known_tests, crate::specs::Laws::token_address, crate::specs::Flags::test_is, fields::specs::Zeros::zeros_first))]
 fn good_head(s: &Image) -> bool
     ensures { result ≡ good_head s.now }
 {
@@ -171,7 +171,7 @@ fn good_head(s: &Image) -> bool
         return false;
     }
     if !has_flag(s, Flag::Initialised) {
-        return fields::are_zero(s, 0, TOKENS);
+        return fields::are_zero(&s[..TOKENS]);
     }
     if !good_addresses(s) {
         return false;
@@ -213,7 +213,7 @@ fn fresh_keys(s: &Image, n: usize) -> bool
     true
 }
 
-#[tactic(auto, unfolding(crate::specs::Good::good_keys), using(crate::specs::Laws::known_tests))]
+#[tactic(auto, unfolding(crate::specs::Good::good_keys), using(crate::specs::Laws::known_tests, fields::specs::Zeros::zeros_part))]
 fn good_keys(s: &Image) -> bool
     ensures { result ≡ good_keys s.now }
 {
@@ -222,7 +222,7 @@ fn good_keys(s: &Image) -> bool
         return false;
     }
     let m = n as usize;
-    fresh_keys(s, m) & fields::are_zero(s, TRACKED_KEYS + 2 * m, 2176 - 2 * m)
+    fresh_keys(s, m) & fields::are_zero(&s[TRACKED_KEYS + 2 * m..TRACKED_KEYS + 2176])
 }
 
 fn good_snapshot(s: &Image, t: usize) -> bool
@@ -236,14 +236,15 @@ fn good_snapshot(s: &Image, t: usize) -> bool
     (present < 2) & ((present == 1) | ((ledger == 0) & nothing))
 }
 
+#[tactic(auto, unfolding(crate::specs::Good::good_absent), using(fields::specs::Logic::and_is, fields::specs::Logic::and_assoc, fields::specs::Zeros::zeros_part))]
 fn good_absent(s: &Image, t: usize) -> bool
     requires { t < 16 }
     ensures { result ≡ good_absent s.now t }
 {
     let a = nothing_at(s, TOLLS + 24 * t);
     let present = fields::get32(s, SNAPSHOTS + 24 * t);
-    let h = fields::are_zero(s, HOLDINGS + 1024 * t, 1024);
-    let c = fields::are_zero(s, CREDITS + 1024 * t, 1024);
+    let h = fields::are_zero(&s[HOLDINGS + 1024 * t..HOLDINGS + 1024 * (t + 1)]);
+    let c = fields::are_zero(&s[CREDITS + 1024 * t..CREDITS + 1024 * (t + 1)]);
     a & (present == 0) & h & c
 }
 

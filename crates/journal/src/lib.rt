@@ -80,7 +80,7 @@ fn good_head(journal: &[u8]) -> bool
     let counts = read_counts(journal);
     let is_open = journal[0] == 1;
     let counted = counts.calls <= 1000 && 24 * (counts.entries + 1) <= journal.len();
-    let filled = journal[0] <= 1 && journal[1] == 0 && fields::are_zero(journal, 6, 18);
+    let filled = journal[0] <= 1 && journal[1] == 0 && fields::are_zero(&journal[6..24]);
     let closed = is_open || counts.calls == 0 && counts.entries == 0;
     counted && filled && closed
 }
@@ -104,14 +104,14 @@ fn good_entries(journal: &[u8], cells: usize, counts: Counts) -> bool
         let at = 24 * (n + 1);
         let entry = read_entry_head(journal, at);
         let ordered = in_order(entry, cells, counts.calls, last, next);
-        if !(ordered && fields::are_zero(journal, at + 4, 4)) {
+        if !(ordered && fields::are_zero(&journal[at + 4..at + 8])) {
             return false;
         }
         last = entry.call;
         next = entry.cell + 1;
     }
     let end = 24 * (counts.entries + 1);
-    fields::are_zero(journal, end, journal.len() - end)
+    fields::are_zero(&journal[end..])
 }
 
 pub fn good_journal(journal: &[u8], cells: usize) -> bool
