@@ -10,6 +10,7 @@ use Rattle.std.proofs.lemmas.Bool.Decides.{Decides-int_eq}
 use Rattle.std.proofs.Math.IntN.{sub_ℕ}
 use Rattle.amount.specs.Laws.{by_lt, integer-biased, biased_from}
 use Rattle.amount.specs.Value.{value, less_value}
+pub use Rattle.amount.specs.Value.{less_is}
 
 -- the number of zero
 pub biased_zero : biased (record { 0 = pos 0 }) ≡ bias
@@ -17,11 +18,6 @@ biased_zero = biased_from 0 ∙ add-zero bias
 
 zero_fits : FitsSigned w128 (pos 0)
 zero_fits = record { sfits = lit< tt }
-
-ranked : (s t : Bool) → is_lt (cond s Less (cond t Greater Equal)) ≡ s
-ranked true t = refl
-ranked false true = refl
-ranked false false = refl
 
 ranked_gt : (m n : ℕ) → is_gt (cond (nat_lt m n) Less (cond (nat_lt n m) Greater Equal)) ≡ nat_lt n m
 ranked_gt m n =
@@ -34,11 +30,6 @@ ranked_gt m n =
     go false = refl
 
 module _ (a b : Amount) (f : FitsSigned w128 a.0) (g : FitsSigned w128 b.0) where
-  -- what `<` answers
-  pub less_is : is_lt (int_cmp a.0 b.0) ≡ nat_lt (biased a) (biased b)
-  unfolding value
-  less_is = ranked (int_lt a.0 b.0) (int_lt b.0 a.0) ∙ less_value a b f g
-
   -- what `>` answers
   pub greater_is : is_gt (int_cmp a.0 b.0) ≡ nat_lt (biased b) (biased a)
   unfolding value

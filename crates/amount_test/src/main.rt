@@ -72,12 +72,12 @@ fn negations(rt: &impl Print) -> io::Result<()> {
 }
 
 fn orders(rt: &impl Print) -> io::Result<()> {
-    truth(rt, amount::less(LEAST, MOST))?;
-    truth(rt, amount::less(MOST, LEAST))?;
-    truth(rt, amount::less(MINUS_ONE, Amount::ZERO))?;
-    truth(rt, amount::less(Amount::ZERO, MINUS_ONE))?;
-    truth(rt, amount::less(MOST, MOST))?;
-    truth(rt, amount::less(Amount::ZERO, ONE))
+    truth(rt, LEAST < MOST)?;
+    truth(rt, MOST < LEAST)?;
+    truth(rt, MINUS_ONE < Amount::ZERO)?;
+    truth(rt, Amount::ZERO < MINUS_ONE)?;
+    truth(rt, MOST < MOST)?;
+    truth(rt, Amount::ZERO < ONE)
 }
 
 // 0 below zero, 1 zero, 2 above.

@@ -2,11 +2,8 @@
 use Rattle.std.specs.Prelude.{List, [], ◌∷◌, ℕ, ◌+◌, ◌^◌}
 use Rattle.fields.specs.Rules.{lt, leq, eq, ne, Rule, when, verdict, chain}
 use Rattle.amount.specs.Biased.{bias}
-use Rattle.image.specs.Layout.{bit, flags, owner, operator, operator_limit, approved_set}
-
--- the flags: bit k, 1 or 0
-unfoldable pub flag : ℕ → List ℕ → ℕ
-flag k l = bit (flags l) k
+use Rattle.image.specs.Layout.{owner, operator, operator_limit, approved_set}
+pub use Rattle.image.specs.Flags.{flag, in_set}
 
 abbrev pub initialised_bit : ℕ
 initialised_bit = 0
@@ -25,10 +22,6 @@ pending_owner_bit = 4
 
 abbrev pub migration_bit : ℕ
 migration_bit = 5
-
--- bit a of a set of addresses, 1 or 0
-unfoldable pub in_set : ℕ → ℕ → ℕ
-in_set set a = bit set a
 
 -- 8: paused
 abbrev pub paused_rules : List ℕ → List Rule

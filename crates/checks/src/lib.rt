@@ -4,27 +4,12 @@
 ghost use Rattle.std.specs.Prelude.{◌≡◌, ◌<◌, ◌≤◌};
 ghost use Rattle.refusal.specs.Numbers.{code};
 ghost use Rattle.amount.specs.Biased.{bias, biased, num};
-ghost use Rattle.image.specs.Flags.{flag_bit};
-ghost use Rattle.checks.specs.Checks.{flag, in_set, insider, paused_number, signed_number, initialised_number, owner_role_number, not_owner_number, owner_number, insider_role_number, not_insider_number, shared_number, amount_number, max_deposit_number, deposit_amount_number, approved_number, limit_number, cap_number, funds_number};
+ghost use Rattle.checks.specs.Checks.{insider, paused_number, signed_number, initialised_number, owner_role_number, not_owner_number, owner_number, insider_role_number, not_insider_number, shared_number, amount_number, max_deposit_number, deposit_amount_number, approved_number, limit_number, cap_number, funds_number};
 
 use amount::Amount;
 use image::{Flag, Image};
+pub use image::{contains, has_flag};
 use refusal::Refusal;
-
-#[tactic(auto, unfolding(crate::specs::Checks::flag), using(amount::specs::Laws::num_bit))]
-pub fn has_flag(img: &Image, wanted: Flag) -> bool
-    ensures { num result ≡ flag (flag_bit wanted) img.now }
-{
-    (fields::get16(img, image::FLAGS) >> wanted.bit()) % 2 == 1
-}
-
-// Whether a set of addresses holds one.
-#[tactic(auto, unfolding(crate::specs::Checks::in_set), using(amount::specs::Laws::num_bit))]
-pub fn contains(set: u64, a: u8) -> bool
-    ensures { num result ≡ in_set set a }
-{
-    a < 64 && (set >> a) % 2 == 1
-}
 
 // 8.
 pub fn paused_check(img: &Image) -> Result<(), Refusal>

@@ -1,6 +1,8 @@
-// Addresses, and those among them that are tokens'.
+// Addresses, those among them that are tokens', and sets of them.
 ghost use Rattle.std.specs.Prelude.{◌≡◌, ◌<◌, ◌≤◌, MatchOption};
+ghost use Rattle.amount.specs.Biased.{num};
 ghost use Rattle.image.specs.Layout.{slot};
+ghost use Rattle.image.specs.Flags.{in_set};
 
 use crate::FIRST_TOKEN;
 
@@ -43,4 +45,12 @@ impl Token {
     {
         usize::from(self.address) - FIRST_TOKEN
     }
+}
+
+// Whether a set of addresses holds one.
+#[tactic(auto, unfolding(crate::specs::Flags::in_set), using(amount::specs::Laws::num_bit, crate::specs::Flags::past_set))]
+pub fn contains(set: u64, a: u8) -> bool
+    ensures { num result ≡ in_set set a }
+{
+    a < 64 && (set >> a) % 2 == 1
 }

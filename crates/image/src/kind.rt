@@ -1,5 +1,5 @@
 // The kind of a token, the first eight bytes of its place in an image.
-ghost use Rattle.std.specs.Prelude.{◌≡◌};
+ghost use Rattle.std.specs.Prelude.{◌≡◌, ◌<◌, ◌≤◌, MatchResult};
 ghost use Rattle.image.specs.Kinds.{kind_of, kind_number};
 
 #[derive(Clone, Copy, Debug, PartialEq, Eq)]
@@ -9,15 +9,18 @@ pub enum Kind {
     Frozen,
 }
 
-// Of a good image the number is 0, 1 or 2.
-impl From<u64> for Kind {
-    ghost from_gives = { λ n kind. kind ≡ kind_of n };
+// A number above 2 is no kind's.
+impl TryFrom<u64> for Kind {
+    type Error = ();
 
-    fn from(number: u64) -> Kind {
+    ghost try_from_gives = { λ n r. MatchResult r (λ kind. (n < 3) × (kind ≡ kind_of n)) (λ _. 3 ≤ n) };
+
+    fn try_from(number: u64) -> Result<Kind, ()> {
         match number {
-            0 => Kind::Absent,
-            1 => Kind::Moving,
-            _ => Kind::Frozen,
+            0 => Ok(Kind::Absent),
+            1 => Ok(Kind::Moving),
+            2 => Ok(Kind::Frozen),
+            _ => Err(()),
         }
     }
 }

@@ -1,16 +1,16 @@
 // Whether an image is good: one function for each part of the definition.
-#![tactic(auto, unfolding(crate::specs::Good::above_where, crate::specs::Good::good_addresses, crate::specs::Good::good_defaults, crate::specs::Good::good_pending, crate::specs::Good::good_migration, crate::specs::Good::good_options, crate::specs::Good::good_head, crate::specs::Good::good_cap, crate::specs::Good::good_keys, crate::specs::Good::good_snapshot, crate::specs::Good::good_absent, crate::specs::Good::good_present, crate::specs::Good::good_token, crate::specs::Good::good_image), using(fields::specs::Logic::and_is, fields::specs::Logic::or_is, fields::specs::Logic::and_assoc))]
+#![tactic(auto, unfolding(crate::specs::Flags::flag, crate::specs::Good::above_where, crate::specs::Good::good_addresses, crate::specs::Good::good_defaults, crate::specs::Good::good_pending, crate::specs::Good::good_migration, crate::specs::Good::good_options, crate::specs::Good::good_head, crate::specs::Good::good_cap, crate::specs::Good::good_keys, crate::specs::Good::good_snapshot, crate::specs::Good::good_absent, crate::specs::Good::good_present, crate::specs::Good::good_token, crate::specs::Good::good_image), using(fields::specs::Logic::and_is, fields::specs::Logic::or_is, fields::specs::Logic::and_assoc, crate::specs::Flags::test_is))]
 
 mod address;
 mod flag;
 mod kind;
 mod places;
 
-ghost use Rattle.std.specs.Prelude.{◌≡◌, ◌+◌, ◌*◌, ◌≤◌, ◌<◌, ltb, leb, eqb, length};
+ghost use Rattle.std.specs.Prelude.{◌≡◌, ◌+◌, ◌*◌, ◌/◌, ◌≤◌, ◌<◌, ltb, leb, eqb, length};
 ghost use Rattle.fields.specs.Bytes.{le, put};
-ghost use Rattle.amount.specs.Biased.{amount_at, bias};
+ghost use Rattle.amount.specs.Biased.{amount_at, bias, num};
 ghost use Rattle.image.specs.Kinds.{kind_of, kind_number};
-ghost use Rattle.image.specs.Layout.{bit, slot, kind, token_at};
+ghost use Rattle.image.specs.Layout.{slot, kind, token_at};
 ghost use Rattle.fields.specs.Logic.{all};
 ghost use Rattle.image.specs.Good.{
   not_negatives,
@@ -31,8 +31,8 @@ ghost use Rattle.image.specs.Good.{
   good_image,
 };
 
-pub use address::{Address, Token};
-pub use flag::Flag;
+pub use address::{Address, Token, contains};
+pub use flag::{Flag, has_flag};
 pub use kind::Kind;
 pub use places::{
     APPROVED_SET, CAPPED_SET, CAPS, CREDITS, DEFAULT_TOKEN, DESTINATION, EXECUTABLE_AT, FLAGS,
@@ -48,13 +48,6 @@ pub type Image = [u8; LENGTH];
 
 // The address of the first token.
 const FIRST_TOKEN: usize = 48;
-
-fn bit_of(x: u64, k: u64) -> bool
-    requires { k < 64 }
-    ensures { result ≡ eqb (bit x k) 1 }
-{
-    (x >> k) % 2 == 1
-}
 
 // A byte of an address, tested.
 fn address_at(s: &[u8], at: usize) -> bool
@@ -100,29 +93,22 @@ fn not_negative_at(s: &[u8], at: usize) -> bool
     !amount::read_amount(s, at).is_negative()
 }
 
-fn above_where(s: &[u8], at: usize, set: u64, k: u64) -> bool
-    requires { (at + 16 ≤ length s.now) × (k < 64) }
-    ensures { result ≡ above_where (bit set k) (amount_at s.now at) }
+fn above_where(s: &[u8], at: usize, is_set: bool) -> bool
+    requires { at + 16 ≤ length s.now }
+    ensures { result ≡ above_where (num is_set) (amount_at s.now at) }
 {
-    if bit_of(set, k) {
+    if is_set {
         above_at(s, at)
     } else {
         nothing_at(s, at)
     }
 }
 
-// The sign is the top bit of the last byte.
-#[tactic(auto, using(crate::specs::Laws::not_negatives_from, crate::specs::Laws::sign_off))]
-pub fn not_negatives(s: &[u8], a: usize, n: usize) -> bool
-    requires { (a + 16 * n ≤ length s.now) × (n ≤ 64) }
-    ensures { result ≡ not_negatives s.now a n }
+pub fn not_negatives(amounts: &[u8]) -> bool
+    ensures { result ≡ not_negatives amounts.now 0 (length amounts.now / 16) }
 {
-    for i in 0..n {
-        if s[a + 16 * i + 15] >= 128 {
-            return false;
-        }
-    }
-    true
+    let (amounts, _) = amounts.as_chunks::<16>();
+    amounts.iter().all(|amount| not_negative_at(amount, 0))
 }
 
 fn good_addresses(s: &Image) -> bool
@@ -137,78 +123,75 @@ fn good_addresses(s: &Image) -> bool
     a & b & c & d & e & f
 }
 
-#[tactic(auto, unfolding(crate::specs::Good::good_defaults), using(crate::specs::Laws::known_tests))]
+#[tactic(auto, unfolding(crate::specs::Good::good_defaults), using(crate::specs::Laws::known_tests, crate::proofs::KindTests::is_present))]
 fn good_defaults(s: &Image) -> bool
     requires { le 1 s.now 3 < 64 }
     ensures { result ≡ good_defaults s.now }
 {
-    let t = usize::from(fields::get8(s, DEFAULT_TOKEN));
-    if t < FIRST_TOKEN {
+    let Some(token) = Token::new(fields::get8(s, DEFAULT_TOKEN)) else {
         return false;
-    }
-    let kind = fields::get64(s, TOKENS + 24 * (t - FIRST_TOKEN));
-    above_at(s, VAULT_LIMIT) & (fields::get64(s, TIME_TO_LIVE) > 0) & (kind > 0)
+    };
+    let is_present = token_kind(s, token) != Kind::Absent;
+    above_at(s, VAULT_LIMIT) & (fields::get64(s, TIME_TO_LIVE) > 0) & is_present
 }
 
-fn good_pending(s: &Image, f: u64) -> bool
-    requires { f ≡ le 2 s.now 0 }
+fn good_pending(s: &Image) -> bool
     ensures { result ≡ good_pending s.now }
 {
     let a = zero8_at(s, PENDING_OWNER);
     let b = zero8_at(s, PROPOSER);
     let c = zero64_at(s, PROPOSED_AT);
-    bit_of(f, 4) | (a & b & c)
+    has_flag(s, Flag::PendingOwner) | (a & b & c)
 }
 
-fn good_migration(s: &Image, f: u64) -> bool
-    requires { f ≡ le 2 s.now 0 }
+fn good_migration(s: &Image) -> bool
     ensures { result ≡ good_migration s.now }
 {
     let a = zero8_at(s, DESTINATION);
     let b = zero64_at(s, MIGRATION_PROPOSED_AT);
     let c = zero64_at(s, EXECUTABLE_AT);
-    bit_of(f, 5) | (a & b & c)
+    has_flag(s, Flag::Migration) | (a & b & c)
 }
 
-fn good_options(s: &Image, f: u64) -> bool
-    requires { f ≡ le 2 s.now 0 }
+fn good_options(s: &Image) -> bool
     ensures { result ≡ good_options s.now }
 {
-    let a = bit_of(f, 2) | zero8_at(s, OPERATOR);
-    let b = above_where(s, OPERATOR_LIMIT, f, 3);
-    let c = good_pending(s, f);
-    let d = good_migration(s, f);
+    let a = has_flag(s, Flag::Operator) | zero8_at(s, OPERATOR);
+    let b = above_where(s, OPERATOR_LIMIT, has_flag(s, Flag::OperatorLimit));
+    let c = good_pending(s);
+    let d = good_migration(s);
     a & b & c & d
 }
 
-#[tactic(auto, unfolding(crate::specs::Good::good_head), using(crate::specs::Laws::known_tests, crate::specs::Laws::token_address, fields::specs::Zeros::zeros_first))]
+#[tactic(auto, unfolding(crate::specs::Flags::flag, crate::specs::Good::good_head), using(crate::specs::Laws::known_tests, crate::specs::Laws::token_address, crate::specs::Flags::test_is, fields::specs::Zeros::zeros_first))]
 fn good_head(s: &Image) -> bool
     ensures { result ≡ good_head s.now }
 {
-    let f = u64::from(fields::get16(s, FLAGS));
-    if f >= 64 {
+    if fields::get16(s, FLAGS) >= 64 {
         return false;
     }
-    if !bit_of(f, 0) {
+    if !has_flag(s, Flag::Initialised) {
         return fields::are_zero(&s[..TOKENS]);
     }
     if !good_addresses(s) {
         return false;
     }
-    good_defaults(s) & good_options(s, f)
+    good_defaults(s) & good_options(s)
 }
 
-#[tactic(auto, unfolding(crate::specs::Good::good_cap), using(crate::specs::Laws::each_tested))]
+#[tactic(auto, unfolding(crate::specs::Flags::in_set, crate::specs::Good::good_cap))]
+fn good_cap(s: &Image, a: u8) -> bool
+    requires { a < 64 }
+    ensures { result ≡ good_cap s.now a }
+{
+    let set = fields::get64(s, CAPPED_SET);
+    above_where(s, CAPS + 16 * usize::from(a), contains(set, a))
+}
+
 fn good_caps(s: &Image) -> bool
     ensures { result ≡ all (good_cap s.now) 64 }
 {
-    let set = fields::get64(s, CAPPED_SET);
-    for a in 0..64 {
-        if !above_where(s, CAPS + 16 * a, set, a as u64) {
-            return false;
-        }
-    }
-    true
+    (0..64).all(|a| good_cap(s, a))
 }
 
 #[tactic(auto, using(crate::specs::Laws::each_tested, crate::specs::Laws::seen_none))]
@@ -216,16 +199,16 @@ fn fresh_keys(s: &Image, n: usize) -> bool
     requires { n ≤ 1088 }
     ensures { result ≡ all (fresh_key s.now) n }
 {
-    let mut seen = [0u8; 1088];
+    let mut seen = [false; 1088];
     for i in 0..n {
-        let k = fields::get16(s, TRACKED_KEYS + 2 * i) as usize;
+        let k = usize::from(fields::get16(s, TRACKED_KEYS + 2 * i));
         if k >= 1088 {
             return false;
         }
-        if seen[k] != 0 {
+        if seen[k] {
             return false;
         }
-        seen[k] = 1;
+        seen[k] = true;
     }
     true
 }
@@ -265,45 +248,45 @@ fn good_absent(s: &Image, t: usize) -> bool
     a & (present == 0) & h & c
 }
 
+#[tactic(auto, unfolding(crate::specs::Good::good_present), using(fields::specs::Logic::and_is, fields::specs::Logic::and_assoc, crate::specs::Laws::not_negatives_part))]
 fn good_present(s: &Image, t: usize) -> bool
     requires { t < 16 }
     ensures { result ≡ good_present s.now t }
 {
     let a = not_negative_at(s, TOLLS + 24 * t);
-    let h = not_negatives(s, HOLDINGS + 1024 * t, 64);
-    let c = not_negatives(s, CREDITS + 1024 * t, 64);
+    let h = not_negatives(&s[HOLDINGS + 1024 * t..HOLDINGS + 1024 * (t + 1)]);
+    let c = not_negatives(&s[CREDITS + 1024 * t..CREDITS + 1024 * (t + 1)]);
     a & h & c
 }
 
+#[tactic(auto, unfolding(crate::specs::Good::good_token), using(crate::specs::Laws::known_tests, crate::proofs::KindTests::is_absent))]
 fn good_token(s: &Image, t: usize) -> bool
     requires { t < 16 }
     ensures { result ≡ good_token s.now t }
 {
-    let k = fields::get64(s, TOKENS + 24 * t);
-    let known = (k < 3) & good_snapshot(s, t);
-    if k == 0 {
+    let Ok(kind) = Kind::try_from(fields::get64(s, TOKENS + 24 * t)) else {
+        return false;
+    };
+    let known = good_snapshot(s, t);
+    if kind == Kind::Absent {
         known & good_absent(s, t)
     } else {
         known & good_present(s, t)
     }
 }
 
-#[tactic(auto, using(crate::specs::Laws::each_tested))]
 fn good_tokens(s: &Image) -> bool
     ensures { result ≡ all (good_token s.now) 16 }
 {
-    for t in 0..16 {
-        if !good_token(s, t) {
-            return false;
-        }
-    }
-    true
+    (0..16).all(|t| good_token(s, t))
 }
 
+// Of a good image no number is above 2.
+#[tactic(auto, using(crate::specs::Kinds::past_kinds))]
 pub fn token_kind(img: &Image, token: Token) -> Kind
     ensures { result ≡ kind_of (kind img.now (slot token.address)) }
 {
-    Kind::from(fields::get64(img, token_at(token)))
+    Kind::try_from(fields::get64(img, token_at(token))).unwrap_or(Kind::Frozen)
 }
 
 pub fn set_token_kind(img: &mut Image, token: Token, kind: Kind)
