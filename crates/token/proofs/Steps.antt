@@ -1,42 +1,73 @@
 -- The steps of a transfer, from what the functions called say.
-use mathlib.Core.Path.{◌≡◌, sym, ap, ◌∙◌}
+use mathlib.Core.Path.{◌≡◌, refl, sym}
 use mathlib.Core.List.{List}
 use Prim.Native.Nat.{ℕ, ◌+◌, ◌-◌, ◌≤◌, ◌<◌}
 use native.Mathlib.Omega.{arith}
+use Rattle.std.specs.Prelude.{Option, Some, None, Bool, true, false}
+use Rattle.fields.specs.Rules.{pick, stop_at}
+use Rattle.refusal.specs.declared.Refusal.{Refusal}
+use Rattle.refusal.specs.Numbers.{number_of}
+use Rattle.refusal.specs.Laws.{some_number}
 use Rattle.storage.specs.Facts.{Good}
-use Rattle.storage.specs.Writes.{holding_range}
-use Rattle.image.specs.Layout.{slot, holding_at, toll, holding}
-use Rattle.amount.specs.Biased.{bias, put_amount}
-use Rattle.token.specs.Token.{arrives, debited, received, transfer_of}
-use Rattle.token.specs.Laws.{debited_from}
+use Rattle.image.specs.Layout.{slot, holding_at, holdings_at, toll, holding}
+use Rattle.amount.specs.declared.Amount.{Amount}
+use Rattle.amount.specs.Biased.{bias, biased, add_of, put_amount}
+use Rattle.amount.specs.Frame.{row_apart}
+use Rattle.amount.specs.Laws.{over_high, valued, sum-biased, amount_at-put_amount, amount_at-put_amount_other}
+use Rattle.token.specs.Token.{Moves, arrives, debited, received, transfer_rules, transfer_number, transfer_of, transferred}
+use Rattle.token.specs.Laws.{transfer_done}
 
 pub toll_range : (l : List ℕ) (t : ℕ) → Good l → t < 64 → bias ≤ toll l (slot t)
 toll_range l t g h = (g.tokens (slot t) (omega arith)).not_below
 
+-- what `refuse_if` refused with k
+pub refused_if : (e : Refusal) (t : Bool) {k : ℕ} → number_of e ≡ pick t k 0 → (t ≡ true) × (number_of e ≡ k)
+refused_if e true h = (refl, h)
+refused_if e false h = absurd (some_number e h)
+
+-- ---- the sender is left with m
+module _ (l : List ℕ) (t from to m : ℕ) where
+  pub self_left : Good l → t < 64 → from < 64 → m < bias + bias → from ≡ to → m ≡ holding (put_amount l (holding_at (slot t) from) m) (slot t) to
+  self_left g h f b e =
+      let len = g.long in
+      rw (← e) (sym (amount_at-put_amount l (holding_at (slot t) from) m (omega arith) b))
+
+  pub other_left : (from ≡ to → ⊥) → holding l (slot t) to ≡ holding (put_amount l (holding_at (slot t) from) m) (slot t) to
+  other_left d = sym (amount_at-put_amount_other l (holding_at (slot t) to) (holding_at (slot t) from) m (row_apart (holdings_at (slot t)) to from (λ e. d (sym e))))
+
 module _ (l : List ℕ) (t from to n : ℕ) where
-  -- the receiver is the sender
-  pub self_left : {h r : ℕ} → Good l → t < 64 → from < 64 → bias ≤ n → n ≤ holding l (slot t) from → from ≡ to → h ≡ holding l (slot t) to → r ≡ h + bias - n
-      → r ≡ holding (debited l t from n) (slot t) to
-  self_left {h} {r} g th fh p q e a b =
-      let (_, below) = holding_range l (slot t) from g (omega arith) fh in
-      let same : holding l (slot t) from ≡ holding l (slot t) to = ap (λ (k : ℕ). holding l (slot t) k) e in
-      let left : r ≡ holding l (slot t) from + bias - n = omega arith in
-      left ∙ (sym (debited_from l t from n g.long th fh (omega arith)) ∙ ap (λ (k : ℕ). holding (debited l t from n) (slot t) k) e)
+  -- h is what the receiver has once the sender is left with m, g what arrives, and s their sum
+  module _ (w : Moves l t) (p : n ≤ holding l (slot t) from) {m h g : ℕ} {s : Option Amount} (q : m ≡ holding l (slot t) from + bias - n) (a : h ≡ holding (put_amount l (holding_at (slot t) from) m) (slot t) to) (b : g ≡ bias + arrives (toll l (slot t)) n) (e : s ≡ add_of h g) where
+    sum_is : h + g ≡ bias + received l t from to n
+    unfolding received debited
+    sum_is = let u = rw q at a in omega arith
 
-  pub debit_is : {y : List ℕ} {m o : ℕ} → y ≡ put_amount l (holding_at (slot t) from) m → m ≡ o + bias - n → o ≡ holding l (slot t) from → y ≡ debited l t from n
-  unfolding debited
-  debit_is e f g = rw (e, f, g)
+    pub too_much : s ≡ None → 23 ≡ transfer_number l t from to n
+    unfolding transfer_number
+    too_much f =
+        let u = sum_is in
+        let high = over_high _ e f (omega arith) in
+        let k = w.of_kind_1 in
+        let (low, below) = w.is_token in
+        stop_at (transfer_rules l t from to n) 4 _ (omega arith) refl
 
-  pub transfer_is : {y z : List ℕ} {m h g : ℕ} → y ≡ debited l t from n → h ≡ holding y (slot t) to → g ≡ bias + arrives (toll l (slot t)) n → z ≡ put_amount y (holding_at (slot t) to) m → m ≡ h + g - bias
-      → z ≡ transfer_of l t from to n
-  unfolding transfer_of received
-  transfer_is {y} {z} {m} {h} {g} e a b f q =
-      let s : holding y (slot t) to ≡ holding (debited l t from n) (slot t) to = ap (λ (k : List ℕ). holding k (slot t) to) e in
-      let w : m ≡ holding (debited l t from n) (slot t) to + arrives (toll l (slot t)) n = omega arith in
-      rw (f, w, e)
+    pub is_room : {v : Amount} → s ≡ Some v → 0 ≡ transfer_number l t from to n
+    unfolding transfer_number
+    is_room f =
+        let ((low, high), _) = valued _ e f in
+        let u = sum_is in
+        let k = w.of_kind_1 in
+        let (first, last) = w.is_token in
+        stop_at (transfer_rules l t from to n) 5 _ (omega arith) refl
 
-  pub gain_fits : {y : List ℕ} {h g : ℕ} → y ≡ debited l t from n → h ≡ holding y (slot t) to → g ≡ bias + arrives (toll l (slot t)) n → received l t from to n < bias + bias → (bias ≤ h + g) × (h + g < bias + bias + bias)
-  unfolding received
-  gain_fits {y} {h} {g} e a b f =
-      let s : holding y (slot t) to ≡ holding (debited l t from n) (slot t) to = ap (λ (k : List ℕ). holding k (slot t) to) e in
-      (omega arith, omega arith)
+    pub sum_received : {v : Amount} → s ≡ Some v → biased v ≡ received l t from to n
+    sum_received f =
+        let u = sum_is in
+        let k = sum-biased _ e f in
+        omega arith
+
+  -- the image
+  pub moved : {m k : ℕ} {z : List ℕ} → 0 ≡ transfer_number l t from to n → m ≡ holding l (slot t) from + bias - n → k ≡ received l t from to n
+      → z ≡ put_amount (put_amount l (holding_at (slot t) from) m) (holding_at (slot t) to) k → z ≡ transferred l t from to n
+  unfolding transfer_of debited
+  moved e f g h = rw (h, f, g) (sym (transfer_done l t from to n (sym e)))

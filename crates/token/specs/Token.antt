@@ -1,6 +1,6 @@
 -- SEP-41 `balance` and `transfer` over the token table, by the rules of docs/FORMATS.md, "Tokens and transfers". A token is named by its address t;
 -- an amount stands as its number n (its value plus `bias`), so that the toll is taken off by n - toll, never below 0.
-use Rattle.std.specs.Prelude.{List, [], ◌∷◌, ℕ, ◌+◌, ◌-◌, eqb}
+use Rattle.std.specs.Prelude.{◌≡◌, List, [], ◌∷◌, ℕ, ◌+◌, ◌-◌, ◌≤◌, ◌<◌, eqb}
 use Rattle.fields.specs.Rules.{lt, leq, eq, ne, Rule, when, verdict, pick}
 use Rattle.amount.specs.Biased.{bias, put_amount}
 use Rattle.image.specs.Layout.{slot, default_token, kind, toll, holding, holding_at}
@@ -15,6 +15,11 @@ absent_rules l t =
 
 unfoldable pub absent_number : List ℕ → ℕ → ℕ
 absent_number l t = verdict (absent_rules l t)
+
+-- there is a token at t, and it moves
+pub record Moves (l : List ℕ) (t : ℕ) : Type 0 where
+  pub is_token : (48 ≤ t) × (t < 64)
+  pub of_kind_1 : kind l (slot t) ≡ 1
 
 -- the number of the vault's holding of its default token
 abbrev pub vault_balance : List ℕ → ℕ

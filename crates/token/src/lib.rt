@@ -1,12 +1,13 @@
 // The token table: SEP-41 `balance` and `transfer` by the rules of docs/FORMATS.md, "Tokens and transfers". A token is named by its address.
 #![tactic(auto)]
 
-ghost use Rattle.std.specs.Prelude.{IfOk, ◌≡◌, ◌+◌, ◌<◌, ◌≤◌, length};
+ghost use Rattle.std.specs.Prelude.{IfOk, MatchOption, ◌≡◌, ◌+◌, ◌<◌, ◌≤◌, length};
 ghost use Rattle.refusal.specs.Numbers.{code};
 ghost use Rattle.amount.specs.Biased.{bias, biased, put_amount};
 ghost use Rattle.image.specs.Layout.{image_length, initialised, slot, toll, holding, holding_at, default_token};
 ghost use Rattle.storage.specs.Facts.{Good};
-ghost use Rattle.token.specs.Token.{absent_number, vault_balance, arrives, debited, transfer_number, transferred};
+ghost use Rattle.token.specs.Token.{absent_number, Moves, vault_balance, arrives, transfer_number, transferred};
+ghost use Rattle.token.specs.Parts.{MovedIs};
 
 use amount::Amount;
 use image::{Address, Image, Kind, Token};
@@ -16,17 +17,21 @@ use refusal::Refusal;
 pub const VAULT: Address = Address { number: 1 };
 
 // 23 where there is no such token.
+#[tactic(auto, unfolding(fields::specs::Rules::verdict, crate::specs::Token::absent_number))]
 pub fn presence_check(img: &Image, t: u8) -> Result<Token, Refusal>
     ensures number { code result ≡ absent_number img.now t }
     ensures token { IfOk result (λ token. token.address ≡ t) }
 {
-    let Some(token) = Token::new(t) else {
-        return Err(Refusal::TokenCallFailed);
-    };
-    if image::token_kind(img, token) == Kind::Absent {
-        return Err(Refusal::TokenCallFailed);
-    }
-    Ok(token)
+    Token::new(t)
+        .filter(|token| image::token_kind(img, *token) != Kind::Absent)
+        .ok_or(Refusal::TokenCallFailed)
+}
+
+// The token at an address, where there is one that moves.
+pub fn moving(img: &Image, t: u8) -> Option<Token>
+    ensures { MatchOption result (Moves img.now t → ⊥) (λ token. (token.address ≡ t) × Moves img.now t) }
+{
+    Token::new(t).filter(|token| image::token_kind(img, *token) == Kind::Moving)
 }
 
 pub fn balance(img: &Image, token: Token, a: Address) -> Amount
@@ -59,6 +64,7 @@ pub fn vault_balance(img: &Image) -> Amount
 }
 
 // What a receiver gets of an amount at a toll.
+#[tactic(auto, unfolding(crate::specs::Token::arrives), using(amount::specs::Order::less_is, amount::specs::Order::biased_zero))]
 pub fn arrives(toll: Amount, n: Amount) -> Amount
     requires { bias ≤ biased toll }
     ensures { biased result ≡ bias + arrives (biased toll) (biased n) }
@@ -70,6 +76,7 @@ pub fn arrives(toll: Amount, n: Amount) -> Amount
 }
 
 // What a receiver gets of an amount of the token.
+#[tactic(auto, using(crate::proofs::Steps::toll_range))]
 fn after_toll(img: &Image, token: Token, n: Amount) -> Amount
     requires { Good img.now }
     ensures { biased result ≡ bias + arrives (toll img.now (slot token.address)) (biased n) }
@@ -77,46 +84,55 @@ fn after_toll(img: &Image, token: Token, n: Amount) -> Amount
     arrives(amount::read_amount(img, image::toll_at(token)), n)
 }
 
-// What the receiver holds once the sender has lost the amount.
-fn before_receipt(img: &Image, token: Token, from: Address, to: Address, n: Amount) -> Amount
-    requires { Good img.now × (bias ≤ biased n) × (biased n ≤ holding img.now (slot token.address) from.number) }
-    ensures { biased result ≡ holding (debited img.now token.address from.number (biased n)) (slot token.address) to.number }
+// What the receiver holds once the sender is left with so much.
+#[tactic(auto, using(crate::proofs::Steps::self_left, crate::proofs::Steps::other_left, amount::specs::Laws::biased_below))]
+fn before_receipt(img: &Image, token: Token, from: Address, to: Address, left: Amount) -> Amount
+    requires { Good img.now }
+    ensures { biased result ≡ holding (put_amount img.now (holding_at (slot token.address) from.number) (biased left)) (slot token.address) to.number }
 {
-    let have = balance(img, token, to);
-    if from.number == to.number {
-        return have - n;
+    if from == to {
+        left
+    } else {
+        balance(img, token, to)
     }
-    have
 }
 
+// What a transfer leaves the sender, and what the receiver then holds.
+#[derive(Clone, Copy)]
+struct Moved {
+    token: Token,
+    left: Amount,
+    received: Amount,
+}
+
+#[tactic(auto, unfolding(fields::specs::Rules::verdict, crate::specs::Token::transfer_number), using(amount::specs::Order::less_is, crate::proofs::Steps::refused_if, crate::proofs::Steps::too_much, crate::proofs::Steps::is_room, crate::proofs::Steps::sum_received))]
 fn transfer_check(
     img: &Image,
     t: u8,
     from: Address,
     to: Address,
     n: Amount,
-) -> Result<Token, Refusal>
+) -> Result<Moved, Refusal>
     requires { Good img.now × (bias ≤ biased n) }
     ensures number { code result ≡ transfer_number img.now t from.number to.number (biased n) }
-    ensures token { IfOk result (λ token. token.address ≡ t) }
+    ensures moved { IfOk result (MovedIs img.now t from.number to.number (biased n)) }
 {
-    let Some(token) = Token::new(t) else {
-        return Err(Refusal::TokenCallFailed);
-    };
-    if image::token_kind(img, token) != Kind::Moving {
-        return Err(Refusal::TokenCallFailed);
-    }
-    if balance(img, token, from) < n {
-        return Err(Refusal::TokenCallFailed);
-    }
-    let have = before_receipt(img, token, from, to, n);
-    if have.checked_add(after_toll(img, token, n)).is_none() {
-        return Err(Refusal::TokenCallFailed);
-    }
-    Ok(token)
+    let token = moving(img, t).ok_or(Refusal::TokenCallFailed)?;
+    let held = balance(img, token, from);
+    refusal::refuse_if(held < n, Refusal::TokenCallFailed)?;
+    let left = held - n;
+    let received = before_receipt(img, token, from, to, left)
+        .checked_add(after_toll(img, token, n))
+        .ok_or(Refusal::TokenCallFailed)?;
+    Ok(Moved {
+        token,
+        left,
+        received,
+    })
 }
 
 // 23 where the transfer fails; it then changes nothing.
+#[tactic(auto, unfolding(crate::specs::Token::transferred), using(refusal::specs::Laws::some_number, crate::proofs::Steps::moved))]
 pub fn transfer(
     img: &mut Image,
     t: u8,
@@ -128,11 +144,8 @@ pub fn transfer(
     ensures value { code result ≡ transfer_number img.old t from.number to.number (biased n) }
     ensures img_after { img.new ≡ transferred img.old t from.number to.number (biased n) }
 {
-    let token = transfer_check(img, t, from, to, n)?;
-    let gain = after_toll(img, token, n);
-    let left = balance(img, token, from) - n;
-    set_balance(img, token, from, left);
-    let have = balance(img, token, to);
-    set_balance(img, token, to, have + gain);
+    let moved = transfer_check(img, t, from, to, n)?;
+    set_balance(img, moved.token, from, moved.left);
+    set_balance(img, moved.token, to, moved.received);
     Ok(())
 }
