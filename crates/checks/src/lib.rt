@@ -1,7 +1,8 @@
 // Checks that several operations make: each refuses by the first rule that holds, or lets the operation go on.
 #![tactic(auto, unfolding(fields::specs::Rules::chain, fields::specs::Rules::or_else, fields::specs::Rules::verdict, crate::specs::Checks::paused_number, crate::specs::Checks::signed_number, crate::specs::Checks::initialised_number, crate::specs::Checks::owner_role_number, crate::specs::Checks::not_owner_number, crate::specs::Checks::owner_number, crate::specs::Checks::insider, crate::specs::Checks::insider_role_number, crate::specs::Checks::not_insider_number, crate::specs::Checks::shared_number, crate::specs::Checks::amount_number, crate::specs::Checks::max_deposit_number, crate::specs::Checks::deposit_amount_number, crate::specs::Checks::approved_number, crate::specs::Checks::limit_number, crate::specs::Checks::cap_number, crate::specs::Checks::funds_number), using(amount::specs::Order::greater_is, amount::specs::Laws::over_high))]
 
-ghost use Rattle.std.specs.Prelude.{◌≡◌, ◌<◌, ◌≤◌};
+ghost use Rattle.std.specs.Prelude.{◌≡◌, [], ◌∷◌, ◌<◌, ◌≤◌};
+ghost use Rattle.fields.specs.Rules.{chain};
 ghost use Rattle.refusal.specs.Numbers.{code};
 ghost use Rattle.amount.specs.Biased.{bias, biased, num};
 ghost use Rattle.checks.specs.Checks.{insider, paused_number, signed_number, initialised_number, owner_role_number, not_owner_number, owner_number, insider_role_number, not_insider_number, shared_number, amount_number, max_deposit_number, deposit_amount_number, approved_number, limit_number, cap_number, funds_number};
@@ -55,13 +56,8 @@ pub fn owner_gate(img: &Image, caller: u8, signers: u64) -> Result<(), Refusal>
 pub fn is_insider(img: &Image, a: u8) -> bool
     ensures { num result ≡ insider img.now a }
 {
-    if fields::get8(img, image::OWNER) == a {
-        return true;
-    }
-    if !has_flag(img, Flag::Operator) {
-        return false;
-    }
-    fields::get8(img, image::OPERATOR) == a
+    fields::get8(img, image::OWNER) == a
+        || has_flag(img, Flag::Operator) && fields::get8(img, image::OPERATOR) == a
 }
 
 // 3, the operator let in too.
@@ -78,6 +74,14 @@ pub fn shared_gate(img: &Image, caller: u8, signers: u64) -> Result<(), Refusal>
     initialised_check(img)?;
     insider_role_check(img, caller)?;
     signed_check(signers, caller)
+}
+
+// 8; 1, 3, 22.
+pub fn open_gate(img: &Image, caller: u8, signers: u64) -> Result<(), Refusal>
+    ensures { code result ≡ chain (paused_number img.now ∷ shared_number img.now caller signers ∷ []) }
+{
+    paused_check(img)?;
+    shared_gate(img, caller, signers)
 }
 
 // 4.
@@ -101,9 +105,7 @@ pub fn max_deposit_check(n: Amount) -> Result<(), Refusal>
 pub fn deposit_amount_check(n: Amount) -> Result<(), Refusal>
     ensures { code result ≡ deposit_amount_number (biased n) }
 {
-    if !n.is_positive() {
-        return Err(Refusal::InvalidAmount);
-    }
+    amount_check(n)?;
     max_deposit_check(n)
 }
 
@@ -122,9 +124,7 @@ pub fn limit_check(holding: Amount, n: Amount, limit: Amount) -> Result<(), Refu
     requires { bias ≤ biased n }
     ensures { code result ≡ limit_number (biased holding) (biased n) (biased limit) }
 {
-    let Some(sum) = holding.checked_add(n) else {
-        return Err(Refusal::ArithmeticOverflow);
-    };
+    let sum = holding.checked_add(n).ok_or(Refusal::ArithmeticOverflow)?;
     refusal::refuse_if(sum > limit, Refusal::LimitExceeded)
 }
 
@@ -135,9 +135,7 @@ pub fn cap_check(img: &Image, caller: u8, sum: Amount) -> Result<(), Refusal>
     if fields::get8(img, image::OWNER) == caller {
         return Ok(());
     }
-    if !has_flag(img, Flag::OperatorLimit) {
-        return Err(Refusal::LimitExceeded);
-    }
+    refusal::refuse_if(!has_flag(img, Flag::OperatorLimit), Refusal::LimitExceeded)?;
     refusal::refuse_if(
         sum > amount::read_amount(img, image::OPERATOR_LIMIT),
         Refusal::LimitExceeded,

@@ -40,12 +40,12 @@ impl Done {
 }
 
 // Done with no value and one event.
+#[tactic(auto, using(amount::specs::Order::biased_zero))]
 pub fn announce(events: &mut Buffer, event: Event) -> Done
     requires { events.old ≡ event_buffer [] }
     ensures { Announced (fields_of event) result events.new }
 {
-    events::put_event(events, 0, event);
-    Done::new(1)
+    announce_value(events, event, Amount::ZERO)
 }
 
 // Done with a value and one event.

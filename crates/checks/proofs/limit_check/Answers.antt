@@ -11,8 +11,8 @@ use Rattle.checks.proofs.limit_check.Goals as goal
 pub returns : goal.returns
 unfolding limit_number
 returns c =
-    let (r, _) = valued _ c.checked_add.ensures c.in-Some.is in
-    let e = sum-biased _ c.checked_add.ensures c.in-Some.is in
-    let above : c.gt.result ≡ true → biased c.args.limit + bias < biased c.args.holding + biased c.args.n = λ y. let h = gt_true c.in-Some.sum c.args.limit (search rules) (search rules) c.gt.ensures y in omega arith in
-    let within : c.gt.result ≡ false → biased c.args.holding + biased c.args.n ≤ biased c.args.limit + bias = λ y. let h = gt_false c.in-Some.sum c.args.limit (search rules) (search rules) c.gt.ensures y in omega arith in
+    let (r, _) = valued _ c.checked_add.ensures c.in_ok-sum.ensures.ok_part in
+    let e = sum-biased _ c.checked_add.ensures c.in_ok-sum.ensures.ok_part in
+    let above : c.gt.result ≡ true → biased c.args.limit + bias < biased c.args.holding + biased c.args.n = λ y. let h = gt_true c.in_ok-sum.sum c.args.limit (search rules) (search rules) c.gt.ensures y in omega arith in
+    let within : c.gt.result ≡ false → biased c.args.holding + biased c.args.n ≤ biased c.args.limit + bias = λ y. let h = gt_false c.in_ok-sum.sum c.args.limit (search rules) (search rules) c.gt.ensures y in omega arith in
     c.refuse_if.ensures ∙ (only_where _ 6 above within ∙ skip _ 7 _ (omega arith))
