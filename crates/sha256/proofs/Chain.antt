@@ -1,20 +1,19 @@
 -- Rounds and blocks: one more of each, whole blocks before the padding, and the padded end.
-use Rattle.std.proofs.Common.{◌≡◌, ℕ, zero, suc, ◌+◌, ◌-◌, ◌*◌, ◌/◌, ◌%◌, ◌^◌, ◌≤◌, List, ◌∷◌, ◌++◌, length, get_or, take, drop, replicate, sym, refl, ap, ◌∙◌, append_assoc, add-zero, add-suc, mul_comm, mul-div_cancel, add-one, arith, lit<, length-append, length-drop, take-append-drop, length-take-le, take_all, drop-drop, take_at}
-use native.Mathlib.Nat.{mul-mod_left}
-use lib.Arith.{mod-mul}
+use Rattle.std.proofs.Common.{◌≡◌, ℕ, zero, suc, ◌+◌, ◌-◌, ◌*◌, ◌/◌, ◌%◌, ◌^◌, ◌<◌, ◌≤◌, List, [], ◌∷◌, ◌++◌, length, get_or, take, drop, replicate, refl, ap, ◌∙◌, append_assoc, add-zero, add-suc, mul_comm, add-one, arith, length-append, length-drop, drop-drop, take_at}
 use lib.ListN.{length-replicate, replicate-append-replicate}
 use lib.Seq.{drop-append-le, take-append-le}
+use Rattle.std.specs.Simd.{first_chunks}
 use Rattle.sha256.specs.declared.State.{State}
 use Rattle.sha256.specs.Sha256.{constants, initial, bytes_of, padding, padded, block, round, rounds, compress, blocks, digest, sha256}
-use Rattle.sha256.proofs.Words.{length-bytes_of}
+use Rattle.sha256.proofs.Words.{length-bytes_of, part-at}
 
 pub rounds_step : (w : List ℕ) (s : State) (i : ℕ) {v r : State} → r ≡ round (get_or constants i 0) (get_or w i 0) v → v ≡ rounds i w s → r ≡ rounds (i + 1) w s
 unfolding rounds
 rounds_step w s i e p = rw (add-one, ← p) e
 
-pub blocks_step : (l : List ℕ) (s : State) (i n : ℕ) {v r : State} → n ≡ 64 → r ≡ compress v (take n (drop (64 * i) l)) → v ≡ blocks i s l → r ≡ blocks (i + 1) s l
+pub blocks_step : (l : List ℕ) (s : State) (bs : List (List ℕ)) (n i : ℕ) {v r : State} → i < n → bs ≡ first_chunks 64 n l → r ≡ compress v (get_or bs i []) → v ≡ blocks i s l → r ≡ blocks (i + 1) s l
 unfolding blocks block
-blocks_step l s i n a e p = rw (add-one, ← p) (rw a at e)
+blocks_step l s bs n i h f e p = rw (add-one, ← p) (rw (f, part-at 64 n i l [] h) at e)
 
 -- what stands behind the first n blocks does not change them
 block_front : (n : ℕ) (a b : List ℕ) → 64 * n + 64 ≤ length a → block n (a ++ b) ≡ block n a
@@ -47,19 +46,13 @@ whole s l p q h =
     rw e (blocks_add q b s (l ++ p) ∙ rw (blocks_front q s l p h, drop-append-le (64 * q) l p h))
 
 -- the two steps of the code give the digest
-pub hashed : (l : List ℕ) (n : ℕ) {rest : List ℕ} {i v s : State} → i ≡ initial → v ≡ blocks n i l → 64 * n ≤ length l → rest ≡ take (length l - 64 * n) (drop (64 * n) l) → s ≡ blocks (length (rest ++ padding (length l)) / 64) v (rest ++ padding (length l)) → digest s ≡ sha256 l
+pub hashed : (l : List ℕ) {rest : List ℕ} {i v s : State} → i ≡ initial → v ≡ blocks (length l / 64) i l → rest ≡ drop (length l / 64 * 64) l → s ≡ blocks (length (rest ++ padding (length l)) / 64) v (rest ++ padding (length l)) → digest s ≡ sha256 l
 unfolding sha256 padded
-hashed l n {rest} ie ve h re se =
-    let r : rest ≡ drop (64 * n) l = re ∙ take_all (length l - 64 * n) (drop (64 * n) l) (rw length-drop (omega arith)) in
-    rw (se, r, ve, ie, ← whole initial l (padding (length l)) n h)
+hashed l {rest} ie ve re se =
+    let r : rest ≡ drop (64 * (length l / 64)) l = re ∙ ap (λ (n : ℕ). drop n l) (mul_comm (length l / 64) 64) in
+    rw (se, r, ve, ie, ← whole initial l (padding (length l)) (length l / 64) (omega arith))
 
 -- ---- the buffer of the last blocks
--- the length in bits modulo 2 ^ 64, computed without overflow
-bits : (n : ℕ) → n % 2 ^ 61 * 8 ≡ 8 * n % 2 ^ 64
-bits n =
-    let e : n * 8 % (2 ^ 61 * 8) ≡ n * 8 / 8 % 2 ^ 61 * 8 + n * 8 % 8 = mod-mul (n * 8) (lit< tt) (lit< tt) in
-    sym (rw (mul_comm 8 n) (e ∙ rw (mul-div_cancel n (lit< tt), mul-mod_left, add-zero)))
-
 -- at is where the length goes, k is the number of zeros before it, and j that of those from there on
 padded-at : (rest x zs d : List ℕ) (len n at k j : ℕ) → length rest ≡ len % 64 → n ≡ (length rest + 72) / 64 → at ≡ 64 * n - 8 → k ≡ (119 - len % 64) % 64 → x ≡ rest ++ (128 ∷ replicate (k + j) 0) → zs ≡ bytes_of 8 (8 * len % 2 ^ 64) → take (64 * n) (take at x ++ (zs ++ d)) ≡ rest ++ padding len
 unfolding padding
@@ -72,15 +65,8 @@ padded-at rest x zs d len n at k j e g ae ke xe ze =
     rw (y, ← append_assoc p zs d, take_at (p ++ zs) d (64 * n) l, ze, ← ke) (append_assoc rest (128 ∷ replicate k 0) (bytes_of 8 (8 * len % 2 ^ 64)))
 
 -- the length stored over the marked buffer completes the padding
-pub padded_end : (rest : List ℕ) (len n at k size : ℕ) {x zs : List ℕ} → length rest ≡ len % 64 → n ≡ (length rest + 72) / 64 → at ≡ 64 * n - 8 → k ≡ 64 * n - at → size ≡ 128 → length x ≡ size → x ≡ rest ++ (128 ∷ replicate (size - suc (length rest)) 0) → zs ≡ bytes_of 8 (len % 2 ^ 61 * 8) → take (64 * n) (take at x ++ (zs ++ drop k (drop at x))) ≡ rest ++ padding len
+pub padded_end : (rest : List ℕ) (len n at k size : ℕ) {x zs : List ℕ} → length rest ≡ len % 64 → n ≡ (length rest + 72) / 64 → at ≡ 64 * n - 8 → k ≡ 64 * n - at → size ≡ 128 → length x ≡ size → x ≡ rest ++ (128 ∷ replicate (size - suc (length rest)) 0) → zs ≡ bytes_of 8 (len * 8 % 2 ^ 64) → take (64 * n) (take at x ++ (zs ++ drop k (drop at x))) ≡ rest ++ padding len
 padded_end rest len n at k size {x} {zs} e g ae ke se le xe ze =
     let z = (119 - len % 64) % 64 in
     let q : size - suc (length rest) ≡ z + (size - suc (length rest) - z) = omega arith in
-    padded-at rest x zs (drop k (drop at x)) len n at z (size - suc (length rest) - z) e g ae refl (xe ∙ ap (λ (i : ℕ). rest ++ (128 ∷ replicate i 0)) q) (ze ∙ ap (bytes_of 8) (bits len))
-
--- the blocks of the buffer's first part are those of the buffer
-pub part : (s : State) (t : List ℕ) (n : ℕ) {p : List ℕ} → 64 * n ≤ length t → take (64 * n) t ≡ p → blocks n s t ≡ blocks (length p / 64) s p
-part s t n {p} h e =
-    let l : length p ≡ 64 * n = ap length (sym e) ∙ length-take-le (64 * n) t h in
-    let c : length p / 64 ≡ n = rw l (omega arith) in
-    rw c (ap (blocks n s) (sym (take-append-drop (64 * n) t)) ∙ rw e (blocks_front n s p (drop (64 * n) t) (omega arith)))
+    padded-at rest x zs (drop k (drop at x)) len n at z (size - suc (length rest) - z) e g ae refl (xe ∙ ap (λ (i : ℕ). rest ++ (128 ∷ replicate i 0)) q) (ze ∙ ap (λ (i : ℕ). bytes_of 8 (i % 2 ^ 64)) (mul_comm len 8))

@@ -1,9 +1,10 @@
 -- Words: a rotation by two shifts, and one turn of each loop that reads, extends or writes words.
-use Rattle.std.proofs.Common.{◌≡◌, ℕ, zero, suc, ◌+◌, ◌-◌, ◌*◌, ◌/◌, ◌%◌, ◌^◌, ◌<◌, ◌≤◌, List, [], ◌∷◌, ◌++◌, length, get_or, take, drop, set, refl, ◌∙◌, append_assoc, append-nil, add-zero, add_comm, add-one, arith, length-append, length-take-le, get_or-take, take-suc, take-suc-set, take_at, shr_lt}
+use Rattle.std.proofs.Common.{◌≡◌, ℕ, zero, suc, ◌+◌, ◌-◌, ◌*◌, ◌/◌, ◌%◌, ◌^◌, ◌<◌, ◌≤◌, List, [], ◌∷◌, ◌++◌, length, get_or, take, drop, set, refl, ◌∙◌, append_assoc, append-nil, add-zero, add_comm, add-one, arith, length-append, length-take-le, get_or-take, take-suc, take-suc-set, take_at, shr_lt, ap, mul-zero, drop-drop, get_or-drop}
 use native.Mathlib.Nat.{mul-mod_left}
 use lib.Bits.{bit_or, bit_xor, or_shifted_r}
 use lib.Pow.{mod-pow-add, shl-shr}
 use Rattle.std.specs.Int.{w32, w64, to_be_bytes}
+use Rattle.std.specs.Simd.{first_chunks}
 use Rattle.std.proofs.Math.Nat.{div-div-eq-div-mul}
 use Rattle.sha256.specs.Sha256.{rotate_right, word_at, words, next_word, with_next, extended, bytes_of, bytes_of_words}
 
@@ -24,10 +25,24 @@ rotation n x q h k =
 pub same_xor : {p q r x y z : ℕ} → p ≡ x → q ≡ y → r ≡ z → bit_xor (bit_xor p q) r ≡ bit_xor (bit_xor x y) z
 same_xor e f g = rw (e, f, g)
 
--- one word more is read
-pub load_step : (w l : List ℕ) (i : ℕ) {x : ℕ} → i < length w → x ≡ word_at l (4 * i) → take i w ≡ words i l → take (i + 1) (set w i x) ≡ words (i + 1) l
-unfolding words
-load_step w l i {x} h e p = rw (add-one, take-suc-set w i x h, p, e)
+-- one of the parts of n bytes
+pub part-at : (n k i : ℕ) (l d : List ℕ) → i < k → get_or (first_chunks n k l) i d ≡ take n (drop (n * i) l)
+part-at n zero i l d h = absurd (omega arith)
+part-at n (suc k) zero l d h = rw mul-zero refl
+part-at n (suc k) (suc i) l d h = part-at n k i (drop n l) d (omega arith) ∙ ap (take n) (drop-drop (n * i) n l ∙ ap (λ (j : ℕ). drop j l) (omega arith))
+
+-- one word more is read, from the part of four bytes where it stands
+pub load_step : (w l : List ℕ) (ps : List (List ℕ)) (n i : ℕ) {x : ℕ} → i < length w → i < n → ps ≡ first_chunks 4 n l
+    → x ≡ get_or (get_or ps i []) 0 0 * 16777216 + get_or (get_or ps i []) 1 0 * 65536 + get_or (get_or ps i []) 2 0 * 256 + get_or (get_or ps i []) 3 0
+    → take i w ≡ words i l → take (i + 1) (set w i x) ≡ words (i + 1) l
+unfolding words word_at
+load_step w l ps n i {x} h k f e q = rw (add-one, take-suc-set w i x h, q, ← word) refl
+  where
+    at : (j : ℕ) → j < 4 → get_or (get_or ps i []) j 0 ≡ get_or l (4 * i + j) 0
+    at j g = rw (f, part-at 4 n i l [] k, get_or-take 4 (drop (4 * i) l) j 0 g, get_or-drop (4 * i) l j 0)
+
+    word : x ≡ word_at l (4 * i)
+    word = omega (arith, e, at 0 (omega arith), at 1 (omega arith), at 2 (omega arith), at 3 (omega arith), ap (λ (j : ℕ). get_or l j 0) (add-zero (4 * i)))
 
 -- the next word depends on the n + 16 words before it
 next-take : (n : ℕ) (w : List ℕ) → next_word n (take (n + 16) w) ≡ next_word n w

@@ -126,29 +126,20 @@ fn small_sigma1(x: u32) -> u32
     x.rotate_right(17) ^ x.rotate_right(19) ^ (x >> 10)
 }
 
-#[tactic(auto, unfolding(crate::specs::Sha256::word_at))]
-fn word_at(s: &[u8], at: usize) -> u32
-    requires { at + 4 ≤ length s.now }
-    ensures { result ≡ word_at s.now at }
-{
-    u32::from_be_bytes(s[at..at + 4].try_into().unwrap())
-}
-
 // Reads the block's sixteen words.
 #[tactic(auto, unfolding(crate::specs::Sha256::words), using(crate::proofs::Words::load_step))]
-fn load(w: &mut [u32], block: &[u8])
-    requires { (length w.old ≡ 64) × (64 ≤ length block.now) }
+fn load(w: &mut [u32; 64], block: &[u8; 64])
     ensures { take 16 w.new ≡ words 16 block.now }
 {
-    for i in 0..16 {
-        w[i] = word_at(block, 4 * i);
+    let (parts, _) = block.as_chunks::<4>();
+    for (i, part) in parts.iter().enumerate() {
+        w[i] = u32::from_be_bytes(*part);
     }
 }
 
 // Computes the other 48 words of the schedule.
 #[tactic(auto, unfolding(crate::specs::Sha256::extended, crate::specs::Sha256::next_word), using(crate::proofs::Words::extend_step))]
-fn extend(w: &mut [u32])
-    requires { length w.old ≡ 64 }
+fn extend(w: &mut [u32; 64])
     ensures { w.new ≡ extended 48 (take 16 w.old) }
 {
     for n in 0..48 {
@@ -221,8 +212,7 @@ fn sum(s: State, t: State) -> State
 }
 
 #[tactic(auto, unfolding(crate::specs::Sha256::compress, crate::specs::Sha256::schedule))]
-fn compress(s: State, block: &[u8]) -> State
-    requires { 64 ≤ length block.now }
+fn compress(s: State, block: &[u8; 64]) -> State
     ensures { result ≡ compress s block.now }
 {
     let mut w = [0u32; 64];
@@ -231,15 +221,15 @@ fn compress(s: State, block: &[u8]) -> State
     sum(s, rounds(s, &w))
 }
 
-// Takes in the first n blocks.
-#[tactic(auto, unfolding(crate::specs::Sha256::blocks))]
-fn blocks(s: State, bytes: &[u8], n: usize) -> State
-    requires { 64 * n ≤ length bytes.now }
-    ensures { result ≡ blocks n s bytes.now }
+// Takes in the whole blocks of the bytes.
+#[tactic(auto, unfolding(crate::specs::Sha256::blocks), using(crate::proofs::Chain::blocks_step))]
+fn blocks(s: State, bytes: &[u8]) -> State
+    ensures { result ≡ blocks (length bytes.now / 64) s bytes.now }
 {
+    let (whole, _) = bytes.as_chunks::<64>();
     let mut v = s;
-    for i in 0..n {
-        v = compress(v, &bytes[64 * i..64 * i + 64]);
+    for block in whole {
+        v = compress(v, block);
     }
     v
 }
@@ -267,8 +257,8 @@ fn mark(tail: &mut [u8], rest: &[u8])
 
 // Fills the buffer with the last bytes of a message of len bytes and its padding. The answer is how many blocks they take.
 #[tactic(auto, using(crate::proofs::Chain::padded_end, crate::proofs::Words::length_bytes))]
-fn pad(tail: &mut [u8], rest: &[u8], len: usize) -> usize
-    requires { (length tail.old ≡ 128) × (length rest.now ≡ len % 64) }
+fn pad(tail: &mut [u8; 128], rest: &[u8], len: usize) -> usize
+    requires { length rest.now ≡ len % 64 }
     ensures { (result ≤ 2) × (take (64 * result) tail.new ≡ rest.now ++ padding len) }
 {
     mark(tail, rest);
@@ -276,19 +266,17 @@ fn pad(tail: &mut [u8], rest: &[u8], len: usize) -> usize
     let end = 64 * n;
     let at = end - 8;
     // The length in bits, modulo 2^64.
-    let bits = len % 0x2000_0000_0000_0000 * 8;
-    tail[at..end].copy_from_slice(&(bits as u64).to_be_bytes());
+    tail[at..end].copy_from_slice(&len.wrapping_mul(8).to_be_bytes());
     n
 }
 
-#[tactic(auto, using(crate::proofs::Chain::part))]
 fn last_blocks(s: State, rest: &[u8], len: usize) -> State
     requires { length rest.now ≡ len % 64 }
     ensures { result ≡ blocks (length (rest.now ++ padding len) / 64) s (rest.now ++ padding len) }
 {
     let mut tail = [0u8; 128];
     let n = pad(&mut tail, rest, len);
-    blocks(s, &tail, n)
+    blocks(s, &tail[..64 * n])
 }
 
 fn initial() -> State
@@ -310,10 +298,9 @@ fn initial() -> State
 pub fn sha256(bytes: &[u8], out: &mut [u8; 32])
     ensures { out.new ≡ sha256 bytes.now }
 {
-    let n = bytes.len() / 64;
-    let at = 64 * n;
-    let v = blocks(initial(), bytes, n);
-    let s = last_blocks(v, &bytes[at..], bytes.len());
+    let (_, rest) = bytes.as_chunks::<64>();
+    let v = blocks(initial(), bytes);
+    let s = last_blocks(v, rest, bytes.len());
     let words = [s.a, s.b, s.c, s.d, s.e, s.f, s.g, s.h];
     store_words(&words, out);
 }
