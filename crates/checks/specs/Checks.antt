@@ -3,7 +3,7 @@ use Rattle.std.specs.Prelude.{List, [], ◌∷◌, ℕ, ◌+◌, ◌^◌}
 use Rattle.fields.specs.Rules.{lt, leq, eq, ne, Rule, when, verdict, chain}
 use Rattle.amount.specs.Biased.{bias}
 use Rattle.image.specs.Layout.{owner, operator, operator_limit, approved_set}
-pub use Rattle.image.specs.Flags.{flag, in_set}
+unfoldable pub use Rattle.image.specs.Flags.{flag, in_set}
 
 abbrev pub initialised_bit : ℕ
 initialised_bit = 0
