@@ -1,22 +1,25 @@
 // Operation 4 `batch_deposit` (lib.rs).
 #![tactic(auto, unfolding(fields::specs::Rules::chain, fields::specs::Rules::or_else, crate::specs::Batch::open_number, crate::specs::Batch::item_number))]
 
-ghost use Rattle.std.specs.Prelude.{IfOk, OnOk, ◌≡◌, [], ℕ, ◌+◌, ◌<◌, ◌≤◌};
+ghost use Rattle.std.specs.Prelude.{IfOk, OnOk, ◌≡◌, [], ◌∷◌, ℕ, ◌+◌, ◌<◌, ◌≤◌};
+ghost use Rattle.fields.specs.Rules.{chain};
 ghost use Rattle.refusal.specs.Numbers.{code};
 ghost use Rattle.amount.specs.Biased.{bias, biased};
 ghost use Rattle.image.specs.Layout.{slot, holding};
 ghost use Rattle.storage.specs.Facts.{Good};
-ghost use Rattle.token.specs.Token.{transfer_number};
+ghost use Rattle.token.specs.Token.{transfer_number, transfer_of};
 ghost use Rattle.record.specs.Record.{item_address, item_amount};
 ghost use Rattle.events.specs.Event.{event_buffer, put_event};
+ghost use Rattle.events.specs.Kinds.{deposited_event};
+ghost use Rattle.checks.specs.Checks.{deposit_amount_number, signed_number};
 ghost use Rattle.outcome.specs.Outcome.{Does};
-ghost use Rattle.batch_deposits.specs.Batch.{count_number, open_number, item_number, items_number, items_sum, item_transfer, item_event, transfers_number, transfers_image, transfers_events, collect_outcome, batch_outcome};
+ghost use Rattle.batch_deposits.specs.Batch.{count_number, open_number, items_number, items_sum, transfers_number, transfers_image, transfers_events, collect_outcome, batch_outcome};
 
 use amount::Amount;
 use events::Buffer;
 use image::{Address, Image, Token};
 use outcome::{Answer, Done};
-use record::{Head, Record};
+use record::{Head, Item, Items};
 use refusal::Refusal;
 
 // 4: no item.
@@ -37,24 +40,23 @@ fn open_check(img: &Image, count: u8) -> Result<(), Refusal>
 }
 
 // 4, 5; 22.
-fn item_check(rec: &Record, signers: u64, i: usize) -> Result<(), Refusal>
-    requires { i < 16 }
-    ensures { code result ≡ item_number rec.now signers i }
+fn item_check(item: Item, signers: u64) -> Result<(), Refusal>
+    ensures { code result ≡ chain (deposit_amount_number (biased item.amount) ∷ signed_number signers item.address ∷ []) }
 {
-    checks::deposit_amount_check(record::item_amount(rec, i))?;
-    checks::signed_check(signers, record::item_address(rec, i))
+    checks::deposit_amount_check(item.amount)?;
+    checks::signed_check(signers, item.address)
 }
 
 // Item by item 4, 5; 22. Sixteen amounts of at most 10 ^ 30 stay far below 2 ^ 127.
-fn add_items(rec: &Record, signers: u64, count: usize) -> Result<Amount, Refusal>
-    requires { count ≤ 16 }
-    ensures number { code result ≡ items_number count rec.now signers 0 }
-    ensures total { IfOk result (λ t. biased t ≡ bias + items_sum count rec.now 0) }
+fn add_items(items: Items<'_>, signers: u64) -> Result<Amount, Refusal>
+    ensures number { code result ≡ items_number items.entry.count items.entry.rec.now signers 0 }
+    ensures total { IfOk result (λ t. biased t ≡ bias + items_sum items.entry.count items.entry.rec.now 0) }
 {
     let mut sum = Amount::ZERO;
-    for i in 0..count {
-        item_check(rec, signers, i)?;
-        sum = sum + record::item_amount(rec, i);
+    for i in 0..usize::from(items.count) {
+        let item = items.get(i);
+        item_check(item, signers)?;
+        sum = sum + item.amount;
     }
     Ok(sum)
 }
@@ -63,41 +65,39 @@ fn add_items(rec: &Record, signers: u64, count: usize) -> Result<Amount, Refusal
 #[tactic(auto, unfolding(fields::specs::Rules::chain, fields::specs::Rules::or_else), using(token::specs::Laws::transfer_done))]
 fn transfer_item(
     img: &mut Image,
-    rec: &Record,
+    item: Item,
     token: Token,
     i: usize,
     events: &mut Buffer,
 ) -> Result<(), Refusal>
-    requires good { Good img.old × (i < 16) }
-    requires i_bound { (item_address rec.now i < 64) × (bias ≤ item_amount rec.now i) }
-    ensures value { code result ≡ transfer_number img.old token.address (item_address rec.now i) 1 (item_amount rec.now i) }
-    ensures img_after { OnOk result ((img.new ≡ item_transfer img.old rec.now token.address i) × (events.new ≡ put_event events.old i (item_event img.old rec.now token.address i))) }
+    requires { Good img.old × (i < 16) × (item.address < 64) × (bias ≤ biased item.amount) }
+    ensures value { code result ≡ transfer_number img.old token.address item.address 1 (biased item.amount) }
+    ensures img_after { OnOk result (img.new ≡ transfer_of img.old token.address item.address 1 (biased item.amount)) }
+    ensures events_after { OnOk result (events.new ≡ put_event events.old i (deposited_event item.address (biased item.amount) (holding img.new (slot token.address) 1))) }
 {
     let from = Address {
-        number: record::item_address(rec, i),
+        number: item.address,
     };
-    let n = record::item_amount(rec, i);
-    token::transfer(img, token.address, from, token::VAULT, n)?;
+    token::transfer(img, token.address, from, token::VAULT, item.amount)?;
     let held = token::balance(img, token, token::VAULT);
-    deposits::put_deposited(events, i, from.number, n, held);
+    deposits::put_deposited(events, i, from.number, item.amount, held);
     Ok(())
 }
 
 // All transfers, item by item.
 fn transfer_items(
     img: &mut Image,
-    rec: &Record,
+    items: Items<'_>,
     token: Token,
-    count: usize,
     events: &mut Buffer,
 ) -> Result<(), Refusal>
-    requires good { Good img.old × (events.old ≡ event_buffer []) × (count ≤ 16) }
-    requires by_index { (j : ℕ) → j < count → (item_address rec.now j < 64) × (bias < item_amount rec.now j) }
-    ensures value { code result ≡ transfers_number count rec.now token.address 0 img.old }
-    ensures img_after { OnOk result ((img.new ≡ transfers_image count rec.now token.address 0 img.old) × (events.new ≡ event_buffer (transfers_events count rec.now token.address 0 img.old))) }
+    requires good { Good img.old × (events.old ≡ event_buffer []) }
+    requires by_index { (j : ℕ) → j < items.count → (item_address items.rec.now j < 64) × (bias < item_amount items.rec.now j) }
+    ensures value { code result ≡ transfers_number items.entry.count items.entry.rec.now token.address 0 img.old }
+    ensures img_after { OnOk result ((img.new ≡ transfers_image items.entry.count items.entry.rec.now token.address 0 img.old) × (events.new ≡ event_buffer (transfers_events items.entry.count items.entry.rec.now token.address 0 img.old))) }
 {
-    for i in 0..count {
-        transfer_item(img, rec, token, i, events)?;
+    for i in 0..usize::from(items.count) {
+        transfer_item(img, items.get(i), token, i, events)?;
     }
     Ok(())
 }
@@ -106,33 +106,33 @@ fn transfer_items(
 #[tactic(auto, unfolding(fields::specs::Rules::chain, fields::specs::Rules::or_else, crate::specs::Batch::collect_outcome), using(outcome::specs::Outcome::refused, outcome::specs::Outcome::accepted, crate::specs::Laws::events_long))]
 fn collect(
     img: &mut Image,
-    rec: &Record,
-    head: Head,
+    items: Items<'_>,
     token: Token,
+    sequence: u32,
     sum: Amount,
     events: &mut Buffer,
 ) -> Answer
-    requires good { Good img.old × (events.old ≡ event_buffer []) × (head.item_count ≤ 16) × (bias ≤ biased sum) × (holding img.old (slot token.address) 1 + biased sum < bias + bias + bias) }
-    requires by_index { (j : ℕ) → j < head.item_count → (item_address rec.now j < 64) × (bias < item_amount rec.now j) }
-    ensures { Does (collect_outcome img.old rec.now token.address head.sequence head.item_count (biased sum)) result img.new events.new }
+    requires good { Good img.old × (events.old ≡ event_buffer []) × (bias ≤ biased sum) × (holding img.old (slot token.address) 1 + biased sum < bias + bias + bias) }
+    requires by_index { (j : ℕ) → j < items.count → (item_address items.rec.now j < 64) × (bias < item_amount items.rec.now j) }
+    ensures { Does (collect_outcome img.old items.entry.rec.now token.address sequence items.entry.count (biased sum)) result img.new events.new }
 {
     let expected = token::balance(img, token, token::VAULT) + sum;
-    transfer_items(img, rec, token, usize::from(head.item_count), events)?;
+    transfer_items(img, items, token, events)?;
     let held = token::balance(img, token, token::VAULT);
     deposits::expected_check(held, expected)?;
-    storage::record_vault_balance(img, token, head.sequence, held);
-    Ok(Done::new(head.item_count))
+    storage::record_vault_balance(img, token, sequence, held);
+    Ok(Done::new(items.count))
 }
 
 #[tactic(auto, unfolding(fields::specs::Rules::chain, fields::specs::Rules::or_else, crate::specs::Batch::batch_outcome, crate::specs::Batch::batch_checks), using(outcome::specs::Outcome::refused, crate::specs::Laws::open_free, deposits::proofs::Laws::funding_free))]
-pub fn batch_deposit(img: &mut Image, rec: &Record, head: Head, events: &mut Buffer) -> Answer
-    requires good { Good img.old × (events.old ≡ event_buffer []) × (head.item_count ≤ 16) }
-    requires by_index { (j : ℕ) → j < head.item_count → item_address rec.now j < 64 }
-    ensures { Does (batch_outcome img.old rec.now head.signers head.sequence head.item_count) result img.new events.new }
+pub fn batch_deposit(img: &mut Image, items: Items<'_>, head: Head, events: &mut Buffer) -> Answer
+    requires good { Good img.old × (events.old ≡ event_buffer []) }
+    requires by_index { (j : ℕ) → j < items.count → item_address items.rec.now j < 64 }
+    ensures { Does (batch_outcome img.old items.entry.rec.now head.signers head.sequence items.entry.count) result img.new events.new }
 {
-    open_check(img, head.item_count)?;
-    let sum = add_items(rec, head.signers, usize::from(head.item_count))?;
+    open_check(img, items.count)?;
+    let sum = add_items(items, head.signers)?;
     let token = token::default_token(img);
     deposits::funding_check(img, token, head.sequence, sum)?;
-    collect(img, rec, head, token, sum, events)
+    collect(img, items, token, head.sequence, sum, events)
 }

@@ -1,15 +1,15 @@
 // The operations by their names: `operate` runs any of them, `look` a view alone.
-#![tactic(auto, unfolding(crate::specs::Operations::outcome_of, record::specs::Form::reads_caller, record::specs::Form::reads_token, record::specs::Form::reads_other, record::specs::Form::reads_flag, record::specs::Form::reads_items, record::specs::Form::member), using(record::specs::Head::head_caller, record::specs::Head::head_token, record::specs::Head::head_other, record::specs::Head::head_flag, record::specs::Head::head_count, record::specs::Head::head_item, crate::specs::Laws::view_does))]
+#![tactic(auto, unfolding(crate::specs::Operations::outcome_of, record::specs::Form::reads_caller, record::specs::Form::reads_token, record::specs::Form::reads_other, record::specs::Form::reads_flag, record::specs::Form::reads_items, record::specs::Form::member), using(record::specs::Head::head_caller, record::specs::Head::head_token, record::specs::Head::head_other, record::specs::Head::head_flag, record::specs::Head::head_count, record::specs::Head::head_item, crate::specs::Laws::view_does, payouts::specs::Laws::items_addressed))]
 
 ghost use Rattle.std.specs.Prelude.{◌≡◌, ◌<◌, true, []};
 ghost use Rattle.storage.specs.Facts.{Good};
-ghost use Rattle.record.specs.Form.{form_number, reads_caller, reads_token};
-ghost use Rattle.record.specs.Head.{HeadOf};
+ghost use Rattle.record.specs.Form.{reads_caller, reads_token};
 ghost use Rattle.record.specs.Views.{view_number};
 ghost use Rattle.events.specs.Event.{event_buffer};
 ghost use Rattle.outcome.specs.Outcome.{Does, Views};
 ghost use Rattle.operations.specs.Operations.{outcome_of, view_outcome};
 
+use batch_deposits::batch_deposit;
 use deposits::deposit_with_failure_report;
 use events::Buffer;
 use image::Image;
@@ -17,20 +17,21 @@ use migration::{
     cancel_emergency_migration, execute_emergency_migration, initiate_emergency_migration,
 };
 use outcome::Answer;
-use record::{Head, Operation, Record, View};
+use record::{Head, Operation, Parsed, View};
 use settings::set_operator_withdraw_limit;
 
-pub fn operate(img: &mut Image, rec: &Record, head: Head, events: &mut Buffer) -> Answer
-    requires { Good img.old × (form_number rec.now ≡ 0) × HeadOf rec.now head × (events.old ≡ event_buffer []) }
-    ensures { Does (outcome_of img.old rec.now) result img.new events.new }
+pub fn operate(img: &mut Image, parsed: Parsed<'_>, events: &mut Buffer) -> Answer
+    requires { Good img.old × (events.old ≡ event_buffer []) }
+    ensures { Does (outcome_of img.old parsed.entry.rec.now) result img.new events.new }
 {
+    let head = parsed.head;
     match head.operation {
         Operation::Initialize => setup::initialize(img, head, events),
         Operation::Deposit => deposits::deposit(img, head, events),
         Operation::DepositWithFee => deposits::deposit_with_fee(img, head, events),
-        Operation::BatchDeposit => batch_deposits::batch_deposit(img, rec, head, events),
+        Operation::BatchDeposit => batch_deposit(img, parsed.items(), head, events),
         Operation::Withdraw => payouts::withdraw(img, head, events),
-        Operation::WithdrawBatch => payouts::withdraw_batch(img, rec, head, events),
+        Operation::WithdrawBatch => payouts::withdraw_batch(img, parsed.items(), head, events),
         Operation::DepositToken => deposits::deposit_token(img, head, events),
         Operation::WithdrawToken => payouts::withdraw_token(img, head, events),
         Operation::DepositWithFailureReport => deposit_with_failure_report(img, head, events),

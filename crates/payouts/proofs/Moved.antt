@@ -74,14 +74,14 @@ module _ (l : List ℕ) (caller signers seq : ℕ) (ps : List Payout) (g : Good 
   pub withdraw_good : Good (payouts_image ps (default_token l) seq l)
   withdraw_good =
       let (c, d) = withdraw_parts l caller signers seq ps z in
-      let (begun, amounts) = checks_passed l caller signers ps a refl c in
-      payouts_good ps (default_token l) seq l g begun amounts d
+      let f = checks_passed l (default_token l) caller signers ps g a refl refl c in
+      payouts_good ps (default_token l) seq l g f.begun f.amounts d
 
   pub withdraw_booked : (b : Book) → BookIs b l → BookIs (takes_all ps b) (payouts_image ps (default_token l) seq l)
   withdraw_booked b is =
       let (c, d) = withdraw_parts l caller signers seq ps z in
-      let (begun, amounts) = checks_passed l caller signers ps a refl c in
-      payouts_booked ps (default_token l) seq l b g begun amounts d refl is
+      let f = checks_passed l (default_token l) caller signers ps g a refl refl c in
+      payouts_booked ps (default_token l) seq l b g f.begun f.amounts d refl is
 
 -- ---- operation 8
 -- a credit that is lowered where it covers the amount moves nothing of the vault's

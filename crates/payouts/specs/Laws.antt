@@ -11,7 +11,7 @@ use Rattle.outcome.specs.FormedLaws.{item_in}
 use Rattle.token.specs.Token.{arrives, received, transfer_rules, transfer_number}
 use Rattle.token.specs.Laws.{absent_free, transfer_free, debited_from, transfer_to}
 use Rattle.storage.specs.Facts.{Good}
-use Rattle.storage.specs.Writes.{holding_range}
+use Rattle.storage.specs.Writes.{holding_range, default_range}
 use Rattle.image.specs.Layout.{slot, default_token, toll, holding, initialised}
 use Rattle.amount.specs.Biased.{bias}
 use Rattle.fields.specs.Rules.{stop_at, AllFail, free, or_zero, link_at_lem, unlinked}
@@ -77,14 +77,23 @@ module _ (l : List ℕ) (t n : ℕ) (g : Good l) (p : bias ≤ n) (f : transfer_
       let v : 0 ≡ remaining_number l t 1 n = stop_at _ 1 0 (omega arith, tt) refl in
       link_at_lem _ 2 0 (f, (sym v, tt)) refl
 
--- the image is initialised, and the payouts can be made
-pub checks_passed : (l : List ℕ) (caller signers : ℕ) (ps : List Payout) {k : ℕ} → Addressed ps → k ≡ withdraw_checks l caller signers ps → k ≡ 0 → (initialised l ≡ 1) × Payable ps
-unfolding withdraw_checks
-checks_passed l caller signers ps a e z =
-    let u = unlinked _ (sym e ∙ z) in
-    (shared_free l caller signers refl u.1.0, payable ps bias a u.1.1.1.0)
+-- the image is initialised, its default token is a token, and the payouts can be made
+pub record Cleared (l : List ℕ) (t : ℕ) (ps : List Payout) : Type 0 where
+  pub begun : initialised l ≡ 1
+  pub low : 48 ≤ t
+  pub high : t < 64
+  pub amounts : Payable ps
 
--- the same of the token that the record names, which is one
+pub checks_passed : (l : List ℕ) (t caller signers : ℕ) (ps : List Payout) {k : ℕ} → Good l → Addressed ps → t ≡ default_token l → k ≡ withdraw_checks l caller signers ps → k ≡ 0
+    → Cleared l t ps
+unfolding withdraw_checks
+checks_passed l t caller signers ps g a p e z =
+    let u = unlinked _ (sym e ∙ z) in
+    let i = shared_free l caller signers refl u.1.0 in
+    let (low, high) = default_range l g i in
+    rw p (record { begun = i; low = low; high = high; amounts = payable ps bias a u.1.1.1.0 })
+
+-- the same of the token that the record names
 pub record ClearedToken (l : List ℕ) (t n : ℕ) : Type 0 where
   pub begun : initialised l ≡ 1
   pub low : 48 ≤ t

@@ -19,7 +19,7 @@ use amount::Amount;
 use events::{Buffer, Event};
 use image::{Address, Image, Token};
 use outcome::{Answer, Done};
-use record::{Head, Record};
+use record::{Head, Item, Items};
 use refusal::Refusal;
 
 // What the payouts of one call have in common.
@@ -43,13 +43,13 @@ impl Withdrawal {
         }
     }
 
-    fn event(self, to: u8, n: Amount, held: Amount) -> Event
-        ensures { fields_of result ≡ withdrawn_event self.caller to (biased n) (biased held) (num self.by_operator) }
+    fn event(self, item: Item, held: Amount) -> Event
+        ensures { fields_of result ≡ withdrawn_event self.caller item.address (biased item.amount) (biased held) (num self.by_operator) }
     {
         Event::Withdrawn {
             caller: self.caller,
-            to,
-            amount: n,
+            to: item.address,
+            amount: item.amount,
             new_balance: held,
             by_operator: self.by_operator,
         }
@@ -57,26 +57,23 @@ impl Withdrawal {
 }
 
 // The sum of what came before and an item's amount: 4; 7.
-#[tactic(auto, unfolding(fields::specs::Rules::verdict, crate::specs::Payouts::item_number), using(crate::proofs::Sums::added_number, crate::proofs::Sums::added_total))]
+#[tactic(auto, unfolding(fields::specs::Rules::verdict, checks::specs::Checks::amount_number, crate::specs::Payouts::item_number), using(crate::proofs::Sums::added_number, crate::proofs::Sums::added_total))]
 fn add_item(sum: Amount, n: Amount) -> Result<Amount, Refusal>
     ensures number { code result ≡ item_number (biased sum) (biased n) }
     ensures total { IfOk result (λ t. biased t ≡ biased sum + biased n - bias) }
 {
-    if !n.is_positive() {
-        return Err(Refusal::InvalidAmount);
-    }
+    checks::amount_check(n)?;
     sum.checked_add(n).ok_or(Refusal::ArithmeticOverflow)
 }
 
 // Item by item 4, 7.
-fn add_items(rec: &Record, count: u8) -> Result<Amount, Refusal>
-    requires { count ≤ 16 }
-    ensures number { code result ≡ items_number (items count 0 rec.now) bias }
-    ensures total { IfOk result (λ t. biased t ≡ items_sum (items count 0 rec.now) bias) }
+fn add_items(listed: Items<'_>) -> Result<Amount, Refusal>
+    ensures number { code result ≡ items_number (items listed.entry.count 0 listed.entry.rec.now) bias }
+    ensures total { IfOk result (λ t. biased t ≡ items_sum (items listed.entry.count 0 listed.entry.rec.now) bias) }
 {
     let mut sum = Amount::ZERO;
-    for i in 0..usize::from(count) {
-        sum = add_item(sum, record::item_amount(rec, i))?;
+    for i in 0..usize::from(listed.count) {
+        sum = add_item(sum, listed.get(i).amount)?;
     }
     Ok(sum)
 }
@@ -100,38 +97,35 @@ fn send(img: &mut Image, token: Token, to: Address, n: Amount) -> Result<(), Ref
 fn pay(
     img: &mut Image,
     paid: Withdrawal,
-    to: Address,
-    n: Amount,
+    item: Item,
     i: usize,
     events: &mut Buffer,
 ) -> Result<(), Refusal>
-    requires { Good img.old × (i < 16) × (bias ≤ biased n) }
-    ensures { Pays (payout to.number (biased n) ∷ []) paid.token.address paid.sequence paid.caller (num paid.by_operator) img.old events.old i (code result) img.new events.new }
+    requires { Good img.old × (i < 16) × (item.address < 64) × (bias ≤ biased item.amount) }
+    ensures { Pays (payout item.address (biased item.amount) ∷ []) paid.token.address paid.sequence paid.caller (num paid.by_operator) img.old events.old i (code result) img.new events.new }
 {
-    send(img, paid.token, to, n)?;
+    let to = Address {
+        number: item.address,
+    };
+    send(img, paid.token, to, item.amount)?;
     let held = token::balance(img, paid.token, token::VAULT);
     storage::record_vault_balance(img, paid.token, paid.sequence, held);
-    events::put_event(events, i, paid.event(to.number, n, held));
+    events::put_event(events, i, paid.event(item, held));
     Ok(())
 }
 
 // Payout by payout, each item's event in its place.
 fn pay_items(
     img: &mut Image,
-    rec: &Record,
+    listed: Items<'_>,
     paid: Withdrawal,
-    count: u8,
     events: &mut Buffer,
 ) -> Result<(), Refusal>
-    requires { Good img.old × (initialised img.old ≡ 1) × (count ≤ 16) × Payable (items count 0 rec.now) }
-    ensures { Pays (items count 0 rec.now) paid.token.address paid.sequence paid.caller (num paid.by_operator) img.old events.old 0 (code result) img.new events.new }
+    requires { Good img.old × (initialised img.old ≡ 1) × Payable (items listed.count 0 listed.rec.now) }
+    ensures { Pays (items listed.entry.count 0 listed.entry.rec.now) paid.token.address paid.sequence paid.caller (num paid.by_operator) img.old events.old 0 (code result) img.new events.new }
 {
-    for i in 0..usize::from(count) {
-        let to = Address {
-            number: record::item_address(rec, i),
-        };
-        let n = record::item_amount(rec, i);
-        pay(img, paid, to, n, i, events)?;
+    for i in 0..usize::from(listed.count) {
+        pay(img, paid, listed.get(i), i, events)?;
     }
     Ok(())
 }
@@ -151,14 +145,14 @@ fn withdraw_checks(img: &Image, head: Head) -> Result<(), Refusal>
 
 // 8; 1, 3, 22; 4; item by item 4, 7; 6; 6.
 #[tactic(auto, unfolding(fields::specs::Rules::chain, fields::specs::Rules::or_else, fields::specs::Rules::verdict), using(crate::proofs::Steps::item_checks, checks::specs::Passed::shared_free))]
-fn batch_checks(img: &Image, rec: &Record, head: Head) -> Result<(), Refusal>
-    requires { Good img.now × (head.item_count ≤ 16) }
-    ensures { code result ≡ withdraw_checks img.now head.caller head.signers (items head.item_count 0 rec.now) }
+fn batch_checks(img: &Image, listed: Items<'_>, head: Head) -> Result<(), Refusal>
+    requires { Good img.now }
+    ensures { code result ≡ withdraw_checks img.now head.caller head.signers (items listed.entry.count 0 listed.entry.rec.now) }
 {
     checks::paused_check(img)?;
     checks::shared_gate(img, head.caller, head.signers)?;
-    refusal::refuse_if(head.item_count == 0, Refusal::InvalidAmount)?;
-    let sum = add_items(rec, head.item_count)?;
+    refusal::refuse_if(listed.count == 0, Refusal::InvalidAmount)?;
+    let sum = add_items(listed)?;
     checks::cap_check(img, head.caller, sum)?;
     checks::funds_check(token::vault_balance(img), sum)
 }
@@ -189,18 +183,18 @@ fn take_credit(img: &mut Image, token: Token, account: Address, n: Amount)
 }
 
 // What follows the transfer: credit, snapshot and event.
-fn settle(img: &mut Image, paid: Withdrawal, to: u8, n: Amount, events: &mut Buffer)
-    requires { Keys img.old × (paid.caller < 64) × (bias ≤ biased n) }
-    ensures img_after { img.new ≡ record_balance (take_credit img.old paid.token.address paid.caller (biased n)) paid.token.address paid.sequence (holding img.old (slot paid.token.address) 1) }
-    ensures events_after { events.new ≡ put_event events.old 0 (withdrawn_event paid.caller to (biased n) (holding img.old (slot paid.token.address) 1) (num paid.by_operator)) }
+fn settle(img: &mut Image, paid: Withdrawal, item: Item, events: &mut Buffer)
+    requires { Keys img.old × (paid.caller < 64) × (bias ≤ biased item.amount) }
+    ensures img_after { img.new ≡ record_balance (take_credit img.old paid.token.address paid.caller (biased item.amount)) paid.token.address paid.sequence (holding img.old (slot paid.token.address) 1) }
+    ensures events_after { events.new ≡ put_event events.old 0 (withdrawn_event paid.caller item.address (biased item.amount) (holding img.old (slot paid.token.address) 1) (num paid.by_operator)) }
 {
     let held = token::balance(img, paid.token, token::VAULT);
     let account = Address {
         number: paid.caller,
     };
-    take_credit(img, paid.token, account, n);
+    take_credit(img, paid.token, account, item.amount);
     storage::record_vault_balance(img, paid.token, paid.sequence, held);
-    events::put_event(events, 0, paid.event(to, n, held));
+    events::put_event(events, 0, paid.event(item, held));
 }
 
 // 8; 1, 3, 22; 4; 6; 23; 6; 6.
@@ -231,22 +225,25 @@ pub fn withdraw(img: &mut Image, head: Head, events: &mut Buffer) -> Answer
 {
     withdraw_checks(img, head)?;
     let paid = Withdrawal::new(img, head, token::default_token(img));
-    let to = Address { number: head.other };
-    pay(img, paid, to, head.amount, 0, events)?;
+    let item = Item {
+        address: head.other,
+        amount: head.amount,
+    };
+    pay(img, paid, item, 0, events)?;
     Ok(Done::new(1))
 }
 
 // Operation 6.
 #[tactic(auto, unfolding(fields::specs::Rules::chain, fields::specs::Rules::or_else, crate::specs::Payouts::withdraw_number, crate::specs::Payouts::withdraw_outcome), using(outcome::specs::Outcome::refused, crate::specs::Laws::checks_passed, crate::proofs::Whole::paid_out))]
-pub fn withdraw_batch(img: &mut Image, rec: &Record, head: Head, events: &mut Buffer) -> Answer
-    requires good { Good img.old × (head.item_count ≤ 16) × (events.old ≡ event_buffer []) }
-    requires addressed { Addressed (items head.item_count 0 rec.now) }
-    ensures { Does (withdraw_outcome img.old head.caller head.signers head.sequence (items head.item_count 0 rec.now)) result img.new events.new }
+pub fn withdraw_batch(img: &mut Image, listed: Items<'_>, head: Head, events: &mut Buffer) -> Answer
+    requires good { Good img.old × (events.old ≡ event_buffer []) }
+    requires addressed { Addressed (items listed.count 0 listed.rec.now) }
+    ensures { Does (withdraw_outcome img.old head.caller head.signers head.sequence (items listed.entry.count 0 listed.entry.rec.now)) result img.new events.new }
 {
-    batch_checks(img, rec, head)?;
+    batch_checks(img, listed, head)?;
     let paid = Withdrawal::new(img, head, token::default_token(img));
-    pay_items(img, rec, paid, head.item_count, events)?;
-    Ok(Done::new(head.item_count))
+    pay_items(img, listed, paid, events)?;
+    Ok(Done::new(listed.count))
 }
 
 // Operation 8.
@@ -259,6 +256,10 @@ pub fn withdraw_token(img: &mut Image, head: Head, events: &mut Buffer) -> Answe
     let paid = Withdrawal::new(img, head, token);
     let to = Address { number: head.other };
     send(img, token, to, head.amount)?;
-    settle(img, paid, head.other, head.amount, events);
+    let item = Item {
+        address: head.other,
+        amount: head.amount,
+    };
+    settle(img, paid, item, events);
     Ok(Done::new(1))
 }

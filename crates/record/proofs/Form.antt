@@ -1,6 +1,6 @@
 -- Refusal 32 at each of the tests of a record: the length, the operation, the head and the items.
 use Rattle.std.specs.Prelude.{◌≡◌, refl, Bool, true, false, not, List, ℕ, ◌≤◌, ◌<◌, ltb, length, get_or}
-use Rattle.std.proofs.Common.{ap, ◌∙◌, arith}
+use Rattle.std.proofs.Common.{ap, sym, ◌∙◌, arith}
 use Rattle.std.specs.Array.{IsWholeChunk}
 use borrow.Author.Tests.{ltb-true, ltb-false}
 use Rattle.fields.specs.Bytes.{bytes_from}
@@ -45,8 +45,8 @@ module _ (s r : List ℕ) (w : IsWholeChunk s r 448) where
     unfolding form_number
     items_refused h i = on_slice 32 (stop_at _ 4 _ (long, (low, (high, (h, i)))) refl)
 
-    pub good_form : head_exceeds r ≡ false → items_exceed r ≡ false → ((i : ℕ) → get_or s i 0 < 256) → 0 ≡ form_number s
+    pub good_form : head_exceeds r ≡ false → items_exceed r ≡ false → ((i : ℕ) → get_or s i 0 < 256) → form_number r ≡ 0
     unfolding form_number
     good_form h i b =
         let f : (i : ℕ) → get_or r i 0 < 256 = λ i. rw w.same (b i) in
-        on_slice 0 (stop_at _ 6 _ (long, (low, (high, (h, (i, (ap not (bytes_from r f), tt)))))) refl)
+        sym (stop_at _ 6 _ (long, (low, (high, (h, (i, (ap not (bytes_from r f), tt)))))) refl)

@@ -2,4 +2,4 @@
 pub mod Bytes
 pub mod Decoded
 pub mod Form
-pub mod Items
+pub mod ItemRule

@@ -1,12 +1,12 @@
 // The record of a call, 448 bytes: its head as a struct, its items, and refusal 32.
 #![tactic(auto)]
 
-ghost use Rattle.std.specs.Prelude.{◌≡◌, ◌<◌, ◌≤◌, ltb, IfOk};
+ghost use Rattle.std.specs.Prelude.{◌≡◌, ◌<◌, ◌≤◌, ltb, true, IfOk};
 ghost use Rattle.fields.specs.Logic.{◌and◌};
 ghost use Rattle.refusal.specs.Numbers.{code};
 ghost use Rattle.amount.specs.Biased.{biased};
 ghost use Rattle.record.specs.Record.{operation_of, item_address, item_amount};
-ghost use Rattle.record.specs.Form.{items_within, head_exceeds, items_exceed, form_number};
+ghost use Rattle.record.specs.Form.{reads_items, items_within, head_exceeds, items_exceed, form_number};
 ghost use Rattle.record.specs.Numbers.{operation_number};
 ghost use Rattle.record.specs.Head.{HeadOf};
 
@@ -53,19 +53,118 @@ pub struct Head {
     pub fee: Amount,
 }
 
-#[tactic(auto, using(crate::proofs::Bytes::byte_read))]
-pub fn item_address(rec: &Record, i: usize) -> u8
-    requires { i < 16 }
-    ensures { result ≡ item_address rec.now i }
-{
-    rec[ITEMS + ITEM_LENGTH * i]
+// An item: an address, and the amount that is moved from or to it.
+#[derive(Clone, Copy, Debug, PartialEq, Eq)]
+pub struct Item {
+    pub address: u8,
+    pub amount: Amount,
 }
 
-pub fn item_amount(rec: &Record, i: usize) -> Amount
-    requires { i < 16 }
-    ensures { biased result ≡ item_amount rec.now i }
-{
-    amount::read_amount(rec, ITEMS + ITEM_LENGTH * i + 8)
+// The first items of a record, of the sixteen that it holds.
+#[derive(Clone, Copy)]
+pub struct Items<'a> {
+    pub rec: &'a Record,
+    pub count: u8,
+    pub ghost fit: { count ≤ 16 },
+}
+
+impl Items<'_> {
+    #[tactic(auto, using(crate::proofs::Bytes::byte_read))]
+    pub fn get(self, i: usize) -> Item
+        requires { i < self.count }
+        ensures { (result.address ≡ item_address self.entry.rec.now i) × (biased result.amount ≡ item_amount self.entry.rec.now i) }
+    {
+        let rec = self.rec;
+        let at = ITEMS + ITEM_LENGTH * i;
+        Item {
+            address: rec[at],
+            amount: amount::read_amount(rec, at + 8),
+        }
+    }
+
+    // Whether the address of each is one.
+    fn within(self) -> bool
+        ensures { result ≡ items_within self.entry.rec.now self.entry.count }
+    {
+        for i in 0..usize::from(self.count) {
+            if self.get(i).address > 63 {
+                return false;
+            }
+        }
+        true
+    }
+}
+
+// A record of good form, and its head.
+#[derive(Clone, Copy)]
+pub struct Parsed<'a> {
+    pub rec: &'a Record,
+    pub head: Head,
+    pub ghost good_form: { form_number rec.now ≡ 0 },
+    pub ghost read: { HeadOf rec.now head },
+}
+
+impl<'a> Parsed<'a> {
+    // The items that the head counts.
+    #[tactic(auto, using(crate::specs::Head::head_count))]
+    pub fn items(self) -> Items<'a>
+        requires { reads_items (operation_number self.head.operation) ≡ true }
+        ensures { (result.rec.now ≡ self.entry.rec.now) × (result.count ≡ self.entry.head.item_count) }
+    {
+        Items {
+            rec: self.rec,
+            count: self.head.item_count,
+        }
+    }
+}
+
+// The bytes of a record, and the operation that the first of them is the number of.
+#[derive(Clone, Copy)]
+struct Reading<'a> {
+    rec: &'a Record,
+    operation: Operation,
+    ghost named: { operation_number operation ≡ operation_of rec.now },
+}
+
+impl Reading<'_> {
+    fn head_exceeds(self) -> bool
+        ensures { result ≡ head_exceeds self.entry.rec.now }
+    {
+        let a = exceeds(self.operation.reads_caller(), self.rec[CALLER], 63);
+        let b = exceeds(self.operation.reads_token(), self.rec[TOKEN], 63);
+        let c = exceeds(self.operation.reads_other(), self.rec[OTHER], 63);
+        let d = exceeds(self.operation.reads_flag(), self.rec[FLAG], 1);
+        a | b | c | d
+    }
+
+    fn items_exceed(self) -> bool
+        ensures { result ≡ items_exceed self.entry.rec.now }
+    {
+        let rec = self.rec;
+        let count = rec[ITEM_COUNT];
+        self.operation.reads_items() && (count > 16 || !Items { rec, count }.within())
+    }
+
+    #[tactic(auto, using(crate::proofs::Bytes::byte_read))]
+    fn head(self) -> Head
+        ensures { HeadOf self.entry.rec.now result }
+    {
+        let rec = self.rec;
+        Head {
+            operation: self.operation,
+            caller: rec[CALLER],
+            token: rec[TOKEN],
+            other: rec[OTHER],
+            flag: rec[FLAG] == 1,
+            item_count: rec[ITEM_COUNT],
+            timestamp: fields::get64(rec, 8),
+            sequence: fields::get32(rec, 16),
+            signers: fields::get64(rec, 24),
+            amount: amount::read_amount(rec, AMOUNT),
+            time_to_live: fields::get64(rec, AMOUNT),
+            fee: amount::read_amount(rec, 48),
+        }
+    }
 }
 
 // Whether a field holds more than the most that it may, where it is read.
@@ -75,72 +174,21 @@ fn exceeds(read: bool, value: u8, most: u8) -> bool
     read && value > most
 }
 
-fn items_within(rec: &Record, count: usize) -> bool
-    requires { count ≤ 16 }
-    ensures { result ≡ items_within rec.now count }
-{
-    for i in 0..count {
-        if item_address(rec, i) > 63 {
-            return false;
-        }
-    }
-    true
-}
-
-fn head_exceeds(rec: &Record, operation: Operation) -> bool
-    requires { operation_number operation ≡ operation_of rec.now }
-    ensures { result ≡ head_exceeds rec.now }
-{
-    let a = exceeds(operation.reads_caller(), rec[CALLER], 63);
-    let b = exceeds(operation.reads_token(), rec[TOKEN], 63);
-    let c = exceeds(operation.reads_other(), rec[OTHER], 63);
-    let d = exceeds(operation.reads_flag(), rec[FLAG], 1);
-    a | b | c | d
-}
-
-fn items_exceed(rec: &Record, operation: Operation) -> bool
-    requires { operation_number operation ≡ operation_of rec.now }
-    ensures { result ≡ items_exceed rec.now }
-{
-    let count = rec[ITEM_COUNT];
-    operation.reads_items() && (count > 16 || !items_within(rec, usize::from(count)))
-}
-
-#[tactic(auto, using(crate::proofs::Bytes::byte_read))]
-fn read_head(rec: &Record, operation: Operation) -> Head
-    requires { operation_number operation ≡ operation_of rec.now }
-    ensures { HeadOf rec.now result }
-{
-    Head {
-        operation,
-        caller: rec[CALLER],
-        token: rec[TOKEN],
-        other: rec[OTHER],
-        flag: rec[FLAG] == 1,
-        item_count: rec[ITEM_COUNT],
-        timestamp: fields::get64(rec, 8),
-        sequence: fields::get32(rec, 16),
-        signers: fields::get64(rec, 24),
-        amount: amount::read_amount(rec, AMOUNT),
-        time_to_live: fields::get64(rec, AMOUNT),
-        fee: amount::read_amount(rec, 48),
-    }
-}
-
-// The head of a record of good form, and 32 of any other bytes.
-pub fn parse(rec: &[u8]) -> Result<Head, Refusal>
+// A record of good form, and 32 of any other bytes.
+pub fn parse(rec: &[u8]) -> Result<Parsed<'_>, Refusal>
     ensures number { code result ≡ form_number rec.now }
-    ensures head { IfOk result (λ head. HeadOf rec.now head) }
+    ensures parsed { IfOk result (λ parsed. parsed.rec.now ≡ rec.now) }
 {
     let Ok(rec) = <&Record>::try_from(rec) else {
         return Err(Refusal::InvalidRecord);
     };
     let operation = Operation::try_from(rec[0])?;
-    if head_exceeds(rec, operation) {
+    let reading = Reading { rec, operation };
+    if reading.head_exceeds() || reading.items_exceed() {
         return Err(Refusal::InvalidRecord);
     }
-    if items_exceed(rec, operation) {
-        return Err(Refusal::InvalidRecord);
-    }
-    Ok(read_head(rec, operation))
+    Ok(Parsed {
+        rec,
+        head: reading.head(),
+    })
 }

@@ -4,8 +4,7 @@
 ghost use Rattle.std.specs.Prelude.{◌<◌};
 
 use amount::Amount;
-use record::{Head, Operation, Record};
-use refusal::Refusal;
+use record::{Head, Items, Operation, Record};
 use std::fmt::Display;
 use std::io;
 
@@ -13,26 +12,14 @@ fn number<T: Display + Copy>(rt: &impl Print, n: T) -> io::Result<()> {
     print!(rt; "{n} ")
 }
 
-fn end(rt: &impl Print) -> io::Result<()> {
-    println!(rt)
-}
-
-// The number of a refusal, and 0 where there is none.
-fn code(answer: Result<Head, Refusal>) -> u8 {
-    match answer {
-        Ok(_) => 0,
-        Err(refusal) => u8::from(refusal),
-    }
-}
-
 // The number of a record of zeros but for the operation and one byte.
-fn form_of(rec: &mut Record, operation: u8, at: usize, value: u8) -> u8
+fn form_of(rec: &mut Record, operation: u8, at: usize, value: u8) -> u32
     requires { at < 448 }
 {
     rec.fill(0);
     fields::put8(rec, 0, operation);
     fields::put8(rec, at, value);
-    code(record::parse(rec))
+    refusal::number(&record::parse(rec))
 }
 
 fn try_byte(
@@ -44,8 +31,7 @@ fn try_byte(
 ) -> io::Result<()>
     requires { at < 448 }
 {
-    let n = form_of(rec, operation, at, value);
-    number(rt, n)
+    number(rt, form_of(rec, operation, at, value))
 }
 
 // The number where item i of the counted ones has the address.
@@ -63,8 +49,7 @@ fn try_item(
     fields::put8(rec, 0, operation);
     fields::put8(rec, 5, count);
     fields::put8(rec, 64 + 24 * i, address);
-    let n = code(record::parse(rec));
-    number(rt, n)
+    number(rt, refusal::number(&record::parse(rec)))
 }
 
 fn operations(rt: &impl Print, rec: &mut Record) -> io::Result<()> {
@@ -73,7 +58,7 @@ fn operations(rt: &impl Print, rec: &mut Record) -> io::Result<()> {
     try_byte(rt, rec, 30, 0, 30)?;
     try_byte(rt, rec, 31, 0, 31)?;
     try_byte(rt, rec, 255, 0, 255)?;
-    end(rt)
+    println!(rt)
 }
 
 // The largest value that each field may have, and one more: addresses, then flag and count.
@@ -84,7 +69,7 @@ fn addresses(rt: &impl Print, rec: &mut Record) -> io::Result<()> {
     try_byte(rt, rec, 7, 2, 64)?;
     try_byte(rt, rec, 29, 3, 63)?;
     try_byte(rt, rec, 29, 3, 64)?;
-    end(rt)
+    println!(rt)
 }
 
 fn flag_and_count(rt: &impl Print, rec: &mut Record) -> io::Result<()> {
@@ -92,7 +77,7 @@ fn flag_and_count(rt: &impl Print, rec: &mut Record) -> io::Result<()> {
     try_byte(rt, rec, 20, 4, 2)?;
     try_byte(rt, rec, 6, 5, 16)?;
     try_byte(rt, rec, 6, 5, 17)?;
-    end(rt)
+    println!(rt)
 }
 
 // The last counted item, one past the count, and an operation that reads no items.
@@ -104,7 +89,7 @@ fn items(rt: &impl Print, rec: &mut Record) -> io::Result<()> {
     try_item(rt, rec, 6, 15, 15, 64)?;
     try_item(rt, rec, 6, 0, 0, 64)?;
     try_item(rt, rec, 5, 16, 0, 64)?;
-    end(rt)
+    println!(rt)
 }
 
 // The operation, whether it is a view, and the numbers where the caller, the token, the other address, the flag and the item count are 255.
@@ -118,7 +103,7 @@ fn row(rt: &impl Print, rec: &mut Record, operation: u8) -> io::Result<()> {
     try_byte(rt, rec, operation, 3, 255)?;
     try_byte(rt, rec, operation, 4, 255)?;
     try_byte(rt, rec, operation, 5, 255)?;
-    end(rt)
+    println!(rt)
 }
 
 fn rows(rt: &impl Print, rec: &mut Record) -> io::Result<()> {
@@ -128,42 +113,38 @@ fn rows(rt: &impl Print, rec: &mut Record) -> io::Result<()> {
     Ok(())
 }
 
+// Operation and flag as they stand in the bytes.
 fn small_fields(rt: &impl Print, rec: &Record, head: Head) -> io::Result<()> {
-    number(rt, rec[0])?;
-    number(rt, head.caller)?;
-    number(rt, head.token)?;
-    number(rt, head.other)?;
-    number(rt, rec[4])?;
-    number(rt, head.item_count)?;
-    number(rt, head.timestamp)?;
-    number(rt, head.sequence)?;
-    number(rt, head.signers)?;
-    number(rt, head.time_to_live)?;
-    end(rt)
+    print!(rt;
+        "{} {} {} {} {} ",
+        rec[0], head.caller, head.token, head.other, rec[4]
+    )?;
+    print!(rt; "{} {} {} ", head.item_count, head.timestamp, head.sequence)?;
+    println!(rt; "{} {} ", head.signers, head.time_to_live)
 }
 
 // The low half of its sixteen bytes.
-fn low(rt: &impl Print, a: Amount) -> io::Result<()> {
-    number(rt, a.0 & i128::from(u64::MAX))
+fn low(a: Amount) -> i128 {
+    a.0 & i128::from(u64::MAX)
 }
 
+// The amounts of the head, and the first and the last item.
 fn amounts(rt: &impl Print, rec: &Record, head: Head) -> io::Result<()> {
-    low(rt, head.amount)?;
-    low(rt, head.fee)?;
-    number(rt, record::item_address(rec, 0))?;
-    low(rt, record::item_amount(rec, 0))?;
-    number(rt, record::item_address(rec, 15))?;
-    low(rt, record::item_amount(rec, 15))?;
-    end(rt)
+    let items = Items { rec, count: 16 };
+    let first = items.get(0);
+    let last = items.get(15);
+    print!(rt; "{} {} ", low(head.amount), low(head.fee))?;
+    print!(rt; "{} {} ", first.address, low(first.amount))?;
+    println!(rt; "{} {} ", last.address, low(last.amount))
 }
 
-// Operation and flag as they stand, and the rest read as operation 24, which asks nothing of the other fields.
+// The fields, read as those of operation 24, which asks nothing of most of them.
 fn fields_of(rt: &impl Print, rec: &Record) -> io::Result<()> {
     let mut view = *rec;
     view[0] = 24;
-    if let Ok(head) = record::parse(&view) {
-        small_fields(rt, rec, head)?;
-        amounts(rt, rec, head)?;
+    if let Ok(parsed) = record::parse(&view) {
+        small_fields(rt, rec, parsed.head)?;
+        amounts(rt, rec, parsed.head)?;
     }
     Ok(())
 }
@@ -178,14 +159,14 @@ fn fill(rec: &mut Record) {
 fn lengths(rt: &impl Print) -> io::Result<()> {
     let mut short = [0u8; 447];
     short[0] = 24;
-    number(rt, code(record::parse(&short)))?;
+    number(rt, refusal::number(&record::parse(&short)))?;
     let mut long = [0u8; 449];
     long[0] = 24;
-    number(rt, code(record::parse(&long)))?;
+    number(rt, refusal::number(&record::parse(&long)))?;
     let mut whole = [0u8; 448];
     whole[0] = 24;
-    number(rt, code(record::parse(&whole)))?;
-    end(rt)
+    number(rt, refusal::number(&record::parse(&whole)))?;
+    println!(rt)
 }
 
 fn main(rt: HostRuntime) -> io::Result<()> {

@@ -5,7 +5,4 @@ use native.Mathlib.Omega.{arith}
 use Rattle.batch_deposits.proofs.batch_deposit.Goals as goal
 
 pub collect-requires-clause-by_index : goal.collect-requires-clause-by_index
-collect-requires-clause-by_index c =
-    let x = c.args in
-    let number = rw c.from.ensures at c.in_ok-sum.ensures.number in
-    λ j k. (c.requires.by_index j k, items_free x.head.item_count x.rec.now x.head.signers 0 j (sym number) (omega arith) (omega arith))
+collect-requires-clause-by_index c = λ j k. (c.requires.by_index j k, items_free _ _ _ 0 j (sym c.in_ok-sum.ensures.number) (omega arith) (omega arith))

@@ -3,4 +3,4 @@ use Rattle.batch_deposits.proofs.Loops.{Underway}
 use Rattle.batch_deposits.proofs.transfer_items.Given as goal
 
 abbrev pub invariant-loop-i : goal.invariant-loop-i
-invariant-loop-i l = Underway l.rec l.token.address l.count l.initial.img l.i l.img l.events
+invariant-loop-i l = Underway l.items.rec.now l.token.address l.items.count l.initial.img l.i l.img l.events

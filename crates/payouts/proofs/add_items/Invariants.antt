@@ -6,5 +6,5 @@ use mathlib.Core.Path.{◌≡◌}
 use Rattle.payouts.proofs.add_items.Given as goal
 
 abbrev pub invariant-loop-i : goal.invariant-loop-i
-invariant-loop-i l = (items_number (items l.count 0 l.rec) bias ≡ items_number (items (l.count - l.i) l.i l.rec) (biased l.sum))
-    × (items_sum (items l.count 0 l.rec) bias ≡ items_sum (items (l.count - l.i) l.i l.rec) (biased l.sum))
+invariant-loop-i l = (items_number (items l.listed.count 0 l.listed.rec.now) bias ≡ items_number (items (l.listed.count - l.i) l.i l.listed.rec.now) (biased l.sum))
+    × (items_sum (items l.listed.count 0 l.listed.rec.now) bias ≡ items_sum (items (l.listed.count - l.i) l.i l.listed.rec.now) (biased l.sum))

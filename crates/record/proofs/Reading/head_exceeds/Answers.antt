@@ -1,12 +1,12 @@
--- `record::head_exceeds` meets its contract.
+-- `record::Reading::head_exceeds` meets its contract.
 use Rattle.record.specs.Form.{head_exceeds}
 use Rattle.record.proofs.Bytes.{byte_read}
 use Rattle.fields.specs.Logic.{or_is, or_assoc}
-use Rattle.record.proofs.head_exceeds.Goals as goal
+use Rattle.record.proofs.Reading.head_exceeds.Goals as goal
 
 pub returns : goal.returns
 unfolding head_exceeds
-returns c = let l = c.args.rec.now in simp (or_is, or_assoc) (rw (
+returns c = let l = c.args.self.rec.now in simp (or_is, or_assoc) (rw (
   c.exceeds-a.ensures,
   c.exceeds-b.ensures,
   c.exceeds-c.ensures,
@@ -15,7 +15,7 @@ returns c = let l = c.args.rec.now in simp (or_is, or_assoc) (rw (
   c.reads_token.ensures,
   c.reads_other.ensures,
   c.reads_flag.ensures,
-  c.requires,
+  c.args.self.named,
   byte_read l 1,
   byte_read l 2,
   byte_read l 3,
