@@ -1,6 +1,7 @@
 -- Laws of the event buffer: its length, one event more, and an event read back.
 use Rattle.std.specs.Prelude.{◌≡◌, refl, List, [], ◌∷◌, ◌++◌, Bool, true, false, ℕ, zero, suc, ◌+◌, ◌*◌, ◌-◌, ◌≤◌, ◌<◌, length, get_or, replicate, take, drop}
 use Rattle.std.proofs.Common.{sym, ap, ◌∙◌, append_assoc, append-nil, arith, length-append, take_at, drop_at, drop-drop}
+use Rattle.std.proofs.Math.Seq.{drop-length}
 use Rattle.std.proofs.Math.Nat.{sub-zero, zero-sub, suc-sub-suc}
 use Rattle.std.proofs.lemmas.List.{length-replicate}
 use Rattle.fields.specs.Bytes.{put}
@@ -58,7 +59,11 @@ append-event es i e h k =
 pub appended : {old new : List ℕ} (es : List EventFields) (i : ℕ) {e f : EventFields} → old ≡ event_buffer es → f ≡ e → new ≡ put_event old i f → length es ≡ i → i < 16 → new ≡ event_buffer (es ++ (e ∷ []))
 appended es i {e} p g q h k = q ∙ (λ t. put_event (p t) i (g t)) ∙ append-event es i e h k
 
--- ---- the bytes that `put_event` writes
+-- .. of the first event
+pub written_one : {old new : List ℕ} {e f : EventFields} → old ≡ event_buffer [] → f ≡ e → new ≡ put_event old 0 f → new ≡ event_buffer (e ∷ [])
+written_one p g q = appended [] 0 p g q refl (omega arith)
+
+-- ---- the bytes of an event
 pub head_written : (l : List ℕ) (at : ℕ) (e : EventFields) → at + 8 ≤ length l → e.kind < 256 → e.first < 256 → e.second < 256 → e.yes < 256
     → put 4 (put 1 (put 1 (put 1 (put 1 l at e.kind) (at + 1) e.first) (at + 2) e.second) (at + 3) e.yes) (at + 4) 0 ≡ splice l at (event_head e)
 unfolding event_head bytes_of
@@ -89,15 +94,21 @@ one_long e = rw (length-append, head_long, length-amount_bytes)
 two_long : (e : EventFields) → length ((event_head e ++ amount_bytes e.number0) ++ amount_bytes e.number1) ≡ 40
 two_long e = rw (length-append, one_long, length-amount_bytes)
 
-pub event_written : (l : List ℕ) (i : ℕ) (e : EventFields) → length l ≡ 896 → i < 16
-    → put_amount (put_amount (put_amount (splice l (56 * i) (event_head e)) (56 * i + 8) e.number0) (56 * i + 24) e.number1) (56 * i + 40) e.number2 ≡ put_event l i e
-unfolding put_event event_bytes
-event_written l i e h k =
-    let at = 56 * i in
+three_long : (e : EventFields) → length (((event_head e ++ amount_bytes e.number0) ++ amount_bytes e.number1) ++ amount_bytes e.number2) ≡ 56
+three_long e = rw (length-append, two_long, length-amount_bytes)
+
+-- .. and its numbers behind them, in a list of 56 bytes
+pub bytes_written : (l : List ℕ) (e : EventFields) → length l ≡ 56 → put_amount (put_amount (put_amount (splice l 0 (event_head e)) 8 e.number0) 24 e.number1) 40 e.number2 ≡ event_bytes e
+unfolding event_bytes splice
+bytes_written l e h =
+    let z : drop 56 l ≡ [] = ap (λ (k : ℕ). drop k l) (sym h) ∙ drop-length l in
     rw (
-      put_amount-next l at 8 (event_head e) (head_long e) e.number0 (omega arith),
-      put_amount-next l at 24 _ (one_long e) e.number1 (omega arith),
-      put_amount-next l at 40 _ (two_long e) e.number2 (omega arith),
+      put_amount-next l 0 8 (event_head e) (head_long e) e.number0 (omega arith),
+      put_amount-next l 0 24 _ (one_long e) e.number1 (omega arith),
+      put_amount-next l 0 40 _ (two_long e) e.number2 (omega arith),
+      three_long e,
+      z,
+      append-nil,
       append_assoc,
       append_assoc,
     )

@@ -1,11 +1,10 @@
 // The vault's events (events.rs), and the buffer of 896 bytes that holds up to sixteen of them.
 #![tactic(auto)]
 
-ghost use Rattle.std.specs.Prelude.{◌≡◌, [], ◌+◌, ◌<◌, ◌≤◌, length};
+ghost use Rattle.std.specs.Prelude.{◌≡◌, [], ◌<◌};
 ghost use Rattle.refusal.specs.Numbers.{code};
 ghost use Rattle.amount.specs.Biased.{biased, num};
-ghost use Rattle.events.specs.Splice.{splice};
-ghost use Rattle.events.specs.Event.{written_fields, event_head, put_event, event_buffer, buffer_number};
+ghost use Rattle.events.specs.Event.{written_fields, event_bytes, put_event, event_buffer, buffer_number};
 ghost use Rattle.events.specs.Kinds.{fields_of};
 
 use amount::Amount;
@@ -113,6 +112,23 @@ struct Fields {
     second: u8,
     yes: bool,
     numbers: [Amount; 3],
+}
+
+impl Fields {
+    fn to_bytes(self) -> [u8; EVENT_LENGTH]
+        ensures { result ≡ event_bytes (written_fields self) }
+    {
+        let mut bytes = [0; EVENT_LENGTH];
+        fields::put8(&mut bytes, 0, self.kind);
+        fields::put8(&mut bytes, 1, self.first);
+        fields::put8(&mut bytes, 2, self.second);
+        fields::put8(&mut bytes, 3, u8::from(self.yes));
+        fields::put32(&mut bytes, 4, 0);
+        amount::write_amount(&mut bytes, 8, self.numbers[0]);
+        amount::write_amount(&mut bytes, 24, self.numbers[1]);
+        amount::write_amount(&mut bytes, 40, self.numbers[2]);
+        bytes
+    }
 }
 
 // The reason of a failed deposit: the token refused the transfer.
@@ -254,28 +270,14 @@ impl Event {
     }
 }
 
-fn put_head(events: &mut Buffer, at: usize, fields: Fields)
-    requires { at + 8 ≤ 896 }
-    ensures { events.new ≡ splice events.old at (event_head (written_fields fields)) }
-{
-    fields::put8(events, at, fields.kind);
-    fields::put8(events, at + 1, fields.first);
-    fields::put8(events, at + 2, fields.second);
-    fields::put8(events, at + 3, u8::from(fields.yes));
-    fields::put32(events, at + 4, 0);
-}
-
+#[tactic(auto, using(crate::proofs::Laid::laid))]
 pub fn put_event(events: &mut Buffer, i: usize, event: Event)
     requires { i < 16 }
     ensures { events.new ≡ put_event events.old i (fields_of event) }
 {
     let at = EVENT_LENGTH * i;
-    let said = event.fields();
-    put_head(events, at, said);
-    let numbers = said.numbers;
-    amount::write_amount(events, at + 8, numbers[0]);
-    amount::write_amount(events, at + 24, numbers[1]);
-    amount::write_amount(events, at + 40, numbers[2]);
+    let bytes = event.fields().to_bytes();
+    events[at..at + EVENT_LENGTH].copy_from_slice(&bytes);
 }
 
 #[tactic(auto, using(crate::specs::Buffer::buffer_cleared))]
@@ -290,8 +292,5 @@ pub fn clear_events(events: &mut Buffer)
 pub fn buffer_check(events: &[u8]) -> Result<(), Refusal>
     ensures { code result ≡ buffer_number events.now }
 {
-    if events.len() != LENGTH {
-        return Err(Refusal::InvalidEventBuffer);
-    }
-    Ok(())
+    refusal::refuse_if(events.len() != LENGTH, Refusal::InvalidEventBuffer)
 }

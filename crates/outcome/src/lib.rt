@@ -49,6 +49,7 @@ pub fn announce(events: &mut Buffer, event: Event) -> Done
 }
 
 // Done with a value and one event.
+#[tactic(auto, using(events::specs::Buffer::written_one))]
 pub fn announce_value(events: &mut Buffer, event: Event, value: Amount) -> Done
     requires { events.old ≡ event_buffer [] }
     ensures { (biased result.value ≡ biased value) × (result.events ≡ 1) × (events.new ≡ event_buffer (fields_of event ∷ [])) }

@@ -1,0 +1,2 @@
+-- Steps of the functions of events.
+pub mod Laid
