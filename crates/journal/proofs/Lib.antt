@@ -6,6 +6,7 @@ pub mod Dispatch
 pub mod Refusals
 pub mod Scanned
 pub mod Backwards
+pub mod Chunks
 pub mod Layouts
 pub mod Outcomes
 pub mod Stretches

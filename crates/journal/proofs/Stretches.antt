@@ -8,7 +8,7 @@ use native.Mathlib.Nat.{zero-add, add-zero, suc-add}
 use native.Mathlib.Omega.{arith}
 use lib.Dec.{eqb, leb}
 use lib.ListN.{length, get_or, take, drop, length-append, length-take, length-drop, take-append-drop, drop_of_length-le}
-use lib.Seq.{take_all, take_at, drop_at, take-take, take-append-le, take-append-add, take-nil, drop-drop}
+use lib.Seq.{take_all, take_at, drop_at, take-take, take-append-le, take-append-add, drop-drop}
 use borrow.Author.Tests.{leb-true, leb-false, le-leb}
 use Rattle.fields.specs.Bytes.{le}
 use Rattle.fields.specs.Logic.{◌and◌}
@@ -17,6 +17,7 @@ use Rattle.fields.specs.Same.{same_bytes_of, same_is, same_refl, same-append}
 use Rattle.fields.proofs.Loops.{le_same}
 use Rattle.journal.specs.Journal.{Entry, entry_bytes, entries_bytes, changed}
 use Rattle.journal.specs.Parts.{place_at, over, Found}
+use Rattle.journal.proofs.Chunks.{drop_take}
 use Rattle.journal.proofs.Written.{length_entries}
 use Rattle.journal.proofs.Cells.{changed_order}
 use Rattle.journal.proofs.Backwards.{order_front}
@@ -71,11 +72,6 @@ pub changed-one : (call i : ℕ) (a b : List ℕ)
 unfolding changed
 changed-one call i a b = refl
 
-drop-take : (m n : ℕ) (l : List ℕ) → drop m (take (m + n) l) ≡ take n (drop m l)
-drop-take zero n l = rw zero-add
-drop-take (suc m) n [] = rw suc-add (sym (take-nil n))
-drop-take (suc m) n (x ∷ l) = rw suc-add (drop-take m n l)
-
 -- only the bytes of the cells are read
 pub changed_front : (call n i : ℕ) (a b : List ℕ) → changed call n i (take (16 * n) a) (take (16 * n) b) ≡ changed call n i a b
 unfolding changed
@@ -84,7 +80,7 @@ changed_front call (suc n) i a b =
     rw (take-take 16 (16 * suc n) a (omega arith), take-take 16 (16 * suc n) b (omega arith), rest a, rest b, changed_front call n (suc i) (drop 16 a) (drop 16 b))
   where
     rest : (l : List ℕ) → drop 16 (take (16 * suc n) l) ≡ take (16 * n) (drop 16 l)
-    rest l = let e : 16 * suc n ≡ 16 + 16 * n = omega arith in ap (λ i. drop 16 (take i l)) e ∙ drop-take 16 (16 * n) l
+    rest l = let e : 16 * suc n ≡ 16 + 16 * n = omega arith in ap (λ i. drop 16 (take i l)) e ∙ drop_take 16 (16 * n) l
 
 changed_self : (call n i : ℕ) (a : List ℕ) → changed call n i a a ≡ []
 unfolding changed

@@ -55,14 +55,13 @@ fn read_counts(journal: &[u8]) -> Counts
     }
 }
 
-fn read_entry_head(journal: &[u8], at: usize) -> EntryHead
-    requires { at + 4 ≤ length journal.now }
-    ensures cell { (result.cell ≡ le 2 journal.now at) × (result.cell < 65536) }
-    ensures call { (result.call ≡ le 2 journal.now (at + 2)) × (result.call < 65536) }
+fn read_entry_head(entry: &[u8; 24]) -> EntryHead
+    ensures cell { (result.cell ≡ le 2 entry.now 0) × (result.cell < 65536) }
+    ensures call { (result.call ≡ le 2 entry.now 2) × (result.call < 65536) }
 {
     EntryHead {
-        cell: number_at(journal, at),
-        call: number_at(journal, at + 2),
+        cell: number_at(entry, 0),
+        call: number_at(entry, 2),
     }
 }
 
@@ -98,17 +97,17 @@ fn good_entries(journal: &[u8], cells: usize, counts: Counts) -> bool
     requires { 24 * suc counts.entries ≤ length journal.now }
     ensures { result ≡ scan_entries cells counts.calls counts.entries 0 0 (drop 24 journal.now) }
 {
+    let (places, _) = journal.as_chunks::<24>();
     let mut last = 0;
     let mut next = 0;
-    for n in 0..counts.entries {
-        let at = 24 * (n + 1);
-        let entry = read_entry_head(journal, at);
-        let ordered = in_order(entry, cells, counts.calls, last, next);
-        if !(ordered && fields::are_zero(&journal[at + 4..at + 8])) {
+    for entry in &places[1..counts.entries + 1] {
+        let head = read_entry_head(entry);
+        let ordered = in_order(head, cells, counts.calls, last, next);
+        if !(ordered && fields::are_zero(&entry[4..8])) {
             return false;
         }
-        last = entry.call;
-        next = entry.cell + 1;
+        last = head.call;
+        next = head.cell + 1;
     }
     let end = 24 * (counts.entries + 1);
     fields::are_zero(&journal[end..])
@@ -158,10 +157,11 @@ fn put_back(image: &mut [u8], journal: &[u8], cells: usize, from: usize, count: 
     requires from_le_count { (from ≤ count) × (count ≡ length (contents_of journal.now).entries) }
     ensures { image.new ≡ restore (drop from (contents_of journal.now).entries) image.old }
 {
+    let (places, _) = journal.as_chunks::<24>();
     for n in (from..count).rev() {
-        let at = 24 * (n + 1);
-        let lo = 16 * number_at(journal, at);
-        image[lo..lo + 16].copy_from_slice(&journal[at + 8..at + 24]);
+        let entry = &places[n + 1];
+        let lo = 16 * read_entry_head(entry).cell;
+        image[lo..lo + 16].copy_from_slice(&entry[8..24]);
     }
 }
 
@@ -171,8 +171,9 @@ fn earlier_entries(journal: &[u8], counts: Counts) -> usize
     requires calls_value { (counts.calls ≡ (contents_of journal.now).calls) × (counts.entries ≡ length (contents_of journal.now).entries) }
     ensures { Earlier counts.calls (contents_of journal.now).entries result }
 {
+    let (places, _) = journal.as_chunks::<24>();
     for n in (0..counts.entries).rev() {
-        if number_at(journal, 24 * (n + 1) + 2) != counts.calls {
+        if read_entry_head(&places[n + 1]).call != counts.calls {
             return n + 1;
         }
     }
@@ -187,7 +188,7 @@ fn clear_entries(journal: &mut [u8], from: usize, to: usize)
     journal[24 * (from + 1)..24 * (to + 1)].fill(0);
 }
 
-// The casts, here and in `put_entry`, lose nothing below 65536; `try_from` would need an `unwrap` each.
+// The casts, here and in `entry_bytes`, lose nothing below 65536; `try_from` would need an `unwrap` each.
 fn write_counts(journal: &mut [u8], counts: Counts)
     requires { (6 ≤ length journal.old) × (counts.calls < 65536) × (counts.entries < 65536) }
     ensures { journal.new ≡ put 2 (put 2 journal.old 2 counts.calls) 4 counts.entries }
@@ -235,14 +236,15 @@ pub fn undo(image: &mut [u8], journal: &mut [u8], cells: usize) -> Result<(), Re
     Ok(())
 }
 
-pub fn put_entry(part: &mut [u8], head: EntryHead, old: &[u8])
-    requires { (length part.old ≡ 24) × (length old.now ≡ 16) × (head.cell < 65536) × (head.call < 65536) }
-    ensures { part.new ≡ entry_bytes (record { cell = head.cell; call = head.call; old = old.now }) }
+pub fn entry_bytes(head: EntryHead, old: &[u8; 16]) -> [u8; 24]
+    requires { (head.cell < 65536) × (head.call < 65536) }
+    ensures { result ≡ entry_bytes (record { cell = head.cell; call = head.call; old = old.now }) }
 {
-    part[0..2].copy_from_slice(&(head.cell as u16).to_le_bytes());
-    part[2..4].copy_from_slice(&(head.call as u16).to_le_bytes());
-    part[4..8].fill(0);
-    part[8..24].copy_from_slice(old);
+    let mut bytes = [0; 24];
+    bytes[0..2].copy_from_slice(&(head.cell as u16).to_le_bytes());
+    bytes[2..4].copy_from_slice(&(head.call as u16).to_le_bytes());
+    bytes[8..24].copy_from_slice(old);
+    bytes
 }
 
 // The byte at which entry n stands, or the end where there is no place for it.
@@ -255,8 +257,7 @@ fn place_at(n: usize, len: usize) -> usize
 }
 
 // Whether two cells have the same two words.
-fn same_cell(old: &[u8], new: &[u8]) -> bool
-    requires { (length old.now ≡ 16) × (length new.now ≡ 16) }
+fn same_cell(old: &[u8; 16], new: &[u8; 16]) -> bool
     ensures { result ≡ same_bytes_of old.now new.now }
 {
     let low = fields::get64(old, 0) == fields::get64(new, 0);
@@ -265,7 +266,7 @@ fn same_cell(old: &[u8], new: &[u8]) -> bool
 }
 
 // Writes an entry for each cell that changed, as far as there are places, and counts them all. `same` tells whether two cells are the same.
-pub fn enter_span<F: Fn(&[u8], &[u8]) -> bool>(
+pub fn enter_span<F: Fn(&[u8; 16], &[u8; 16]) -> bool>(
     old: &[u8],
     new: &[u8],
     places: &mut [u8],
@@ -276,11 +277,11 @@ pub fn enter_span<F: Fn(&[u8], &[u8]) -> bool>(
     requires compares { Compares (F.pre same) (F.post same) }
     ensures { Found span.cells span.first span.call old.now new.now places.old result places.new }
 {
+    let (before, _) = old.as_chunks::<16>();
+    let (after, _) = new.as_chunks::<16>();
     let mut n = 0;
     for cell in 0..span.cells {
-        let lo = 16 * cell;
-        let hi = lo + 16;
-        if !same(&old[lo..hi], &new[lo..hi]) {
+        if !same(&before[cell], &after[cell]) {
             let at = 24 * n;
             let end = at + 24;
             n += 1;
@@ -289,7 +290,7 @@ pub fn enter_span<F: Fn(&[u8], &[u8]) -> bool>(
                     cell: span.first + cell,
                     call: span.call,
                 };
-                put_entry(&mut places[at..end], head, &old[lo..hi]);
+                places[at..end].copy_from_slice(&entry_bytes(head, &before[cell]));
             }
         }
     }
@@ -307,38 +308,34 @@ pub fn enter_cells(old: &[u8], new: &[u8], places: &mut [u8], cells: usize, call
     requires { Cells cells 0 call old.now new.now }
     ensures { Finds cells call old.now new.now places.old result places.new }
 {
+    let (before, before_rest) = old.as_chunks::<STRETCH_BYTES>();
+    let (after, after_rest) = new.as_chunks::<STRETCH_BYTES>();
     let mut n = 0;
     for stretch in 0..cells / STRETCH {
-        let first = STRETCH * stretch;
-        let from = 16 * first;
-        let to = from + STRETCH_BYTES;
-        let before = &old[from..to];
-        let after = &new[from..to];
-        if !fields::same_words(before, after) {
+        if !fields::same_words(&before[stretch], &after[stretch]) {
             let at = place_at(n, places.len());
             let span = Span {
                 cells: STRETCH,
-                first,
+                first: STRETCH * stretch,
                 call,
             };
-            n += enter_span(before, after, &mut places[at..], span, same_cell);
+            n += enter_span(
+                &before[stretch],
+                &after[stretch],
+                &mut places[at..],
+                span,
+                same_cell,
+            );
         }
     }
     let first = STRETCH * (cells / STRETCH);
-    let from = 16 * first;
     let at = place_at(n, places.len());
     let span = Span {
         cells: cells - first,
         first,
         call,
     };
-    n + enter_span(
-        &old[from..],
-        &new[from..],
-        &mut places[at..],
-        span,
-        same_cell,
-    )
+    n + enter_span(before_rest, after_rest, &mut places[at..], span, same_cell)
 }
 
 // The changed cells behind the entries that are there: written as far as there are places, and all entries counted.

@@ -3,6 +3,7 @@
 
 ghost use Rattle.std.specs.Prelude.{◌≡◌};
 ghost use Rattle.fields.specs.Rules.{pick};
+ghost use Rattle.fields.specs.Same.{same_bytes_of};
 ghost use Rattle.journal.specs.Journal.{good_journal};
 ghost use Rattle.journal.specs.Parts.{Finds};
 
@@ -20,6 +21,12 @@ pub extern "C" fn journal_bench_by_words(
     journal::enter_cells(old, new, places, 2302, 1) as u32
 }
 
+fn same_cell(old: &[u8; 16], new: &[u8; 16]) -> bool
+    ensures { result ≡ same_bytes_of old.now new.now }
+{
+    fields::same_bytes(old, new)
+}
+
 // The same, a byte at a time.
 #[unsafe(no_mangle)]
 pub extern "C" fn journal_bench_by_bytes(
@@ -34,7 +41,7 @@ pub extern "C" fn journal_bench_by_bytes(
         first: 0,
         call: 1,
     };
-    let changed = journal::enter_span(old, new, places, span, fields::same_bytes);
+    let changed = journal::enter_span(old, new, places, span, same_cell);
     changed as u32
 }
 

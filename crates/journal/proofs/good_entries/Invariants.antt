@@ -5,5 +5,5 @@ use lib.ListN.{drop}
 use Rattle.journal.specs.Scan.{scan_entries}
 use Rattle.journal.proofs.good_entries.Given as goal
 
-abbrev pub invariant-loop-n : goal.invariant-loop-n
-invariant-loop-n l = scan_entries l.cells l.counts.calls (l.counts.entries - l.n) l.last l.next (drop (24 * suc l.n) l.journal) ≡ scan_entries l.cells l.counts.calls l.counts.entries 0 0 (drop 24 l.journal)
+abbrev pub invariant-loop-entry : goal.invariant-loop-entry
+invariant-loop-entry l = scan_entries l.cells l.counts.calls (l.counts.entries - l.entry-index) l.last l.next (drop (24 * suc l.entry-index) l.journal) ≡ scan_entries l.cells l.counts.calls l.counts.entries 0 0 (drop 24 l.journal)

@@ -8,5 +8,5 @@ use Rattle.journal.proofs.same_cell.Goals as goal
 pub returns : goal.returns
 returns c =
     let x = c.args in
-    let t = two_words x.old.now x.new.now (λ i. omega (arith, c.type_inv.old i)) (λ i. omega (arith, c.type_inv.new i)) c.requires.0 c.requires.1 in
+    let t = two_words x.old.now x.new.now (λ i. omega (arith, c.fits-old i)) (λ i. omega (arith, c.fits-new i)) c.told-old c.told-new in
     rw (c.get64.ensures, c.get64-2.ensures, c.get64-3.ensures, c.get64-4.ensures) (and_is _ _ ∙ t)
