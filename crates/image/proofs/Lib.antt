@@ -1,3 +1,3 @@
--- Tests of a token's kind, and of each number of a range.
+-- Tests of a token's kind, and what `all` and `any` answer over a range.
 pub mod KindTests
 pub mod Ranges

@@ -1,37 +1,56 @@
--- A test of each number of a range, as `all` of `fields` says it.
-use Rattle.std.specs.Prelude.{◌≡◌, refl, Bool, ℕ, zero, suc, ◌+◌, ◌-◌}
-use Rattle.std.specs.List.{list_all, range_with_len}
+-- What `all` and `any` answer over the numbers below n.
+use Rattle.std.specs.Prelude.{◌≡◌, refl, Bool, true, false, ◌&&◌, ◌||◌, List, [], ◌∷◌, ◌++◌, ℕ, zero, suc, ◌+◌, ◌-◌}
+use Rattle.std.specs.List.{list_all, list_any, range_with_len}
 use Rattle.std.specs.Fn.{Called}
-use Rattle.std.specs.Iterator.{ChecksAll}
-use denote.Param.Members.{Mut}
+use Rattle.std.specs.Iterator.{ChecksAll, ChecksAny}
+use Rattle.std.proofs.Common.{arith, sym, ap, ◌∙◌, add-zero}
 use Rattle.std.proofs.iter.Yields.{nat_range_steps}
 use Rattle.std.proofs.lemmas.Iterator.{YieldsList-from_range}
-use Rattle.std.proofs.lemmas.Iterator.Search.{all_from_yields_List}
-use Rattle.std.proofs.Common.{arith, sym, ◌∙◌, ap, ap₂}
-use Rattle.fields.specs.Logic.{◌and◌, all, and_is, and_true, true_and, and_assoc}
+use Rattle.std.proofs.lemmas.Iterator.Search.{all_from_yields_List, any_from_yields_List}
+use Rattle.std.proofs.lemmas.List.Folds.{list_all-append, list_any-append}
+use denote.Param.Members.{Mut}
+use Rattle.fields.specs.Logic.{◌and◌, ◌or◌, all}
 
-all_same : (p q : ℕ → Bool) (n : ℕ) → ((i : ℕ) → p i ≡ q i) → all p n ≡ all q n
+-- p holds of some number below n
+abbrev pub some : (ℕ → Bool) → ℕ → Bool
+some p zero = false
+some p (suc n) = p n or some p n
+
+range_more : (n a : ℕ) → range_with_len a (suc n) ≡ range_with_len a n ++ (a + n) ∷ []
+range_more zero a = ap (λ (k : ℕ). k ∷ []) (sym (add-zero a))
+range_more (suc n) a =
+    let q : a + 1 + n ≡ a + suc n = omega arith in
+    ap (λ (l : List ℕ). a ∷ l) (range_more n (a + 1) ∙ ap (λ (k : ℕ). range_with_len (a + 1) n ++ k ∷ []) q)
+
+alone_all : (a b : Bool) → a && (b && true) ≡ a and b
+unfolding ◌and◌
+alone_all true true = refl
+alone_all true false = refl
+alone_all false b = refl
+
+alone_any : (a b : Bool) → a || (b || false) ≡ b or a
+unfolding ◌or◌
+alone_any true true = refl
+alone_any true false = refl
+alone_any false true = refl
+alone_any false false = refl
+
+all_of_range : (p : ℕ → Bool) (n : ℕ) → list_all p (range_with_len 0 n) ≡ all p n
 unfolding all
-all_same p q zero h = refl
-all_same p q (suc n) h = ap₂ ◌and◌ (all_same p q n h) (h n)
+all_of_range p zero = refl
+all_of_range p (suc n) =
+    let q : 0 + n ≡ n = omega arith in
+    ap (list_all p) (range_more n 0) ∙ rw (q, list_all-append p (range_with_len 0 n) (n ∷ []), all_of_range p n) (alone_all (all p n) (p n))
 
-all_front : (p : ℕ → Bool) (n : ℕ) → all p (suc n) ≡ p 0 and all (λ i. p (suc i)) n
-unfolding all
-all_front p zero = true_and (p 0) ∙ sym (and_true (p 0))
-all_front p (suc n) = ap (λ (b : Bool). b and p (suc n)) (all_front p n) ∙ and_assoc (p 0) (all (λ i. p (suc i)) n) (p (suc n))
+any_of_range : (p : ℕ → Bool) (n : ℕ) → list_any p (range_with_len 0 n) ≡ some p n
+any_of_range p zero = refl
+any_of_range p (suc n) =
+    let q : 0 + n ≡ n = omega arith in
+    ap (list_any p) (range_more n 0) ∙ rw (q, list_any-append p (range_with_len 0 n) (n ∷ []), any_of_range p n) (alone_any (some p n) (p n))
 
-range_from : (p : ℕ → Bool) (n a : ℕ) → list_all p (range_with_len a n) ≡ all (λ i. p (a + i)) n
-unfolding all
-range_from p zero a = refl
-range_from p (suc n) a =
-    let next : all (λ i. p (a + 1 + i)) n ≡ all (λ i. p (a + suc i)) n = all_same (λ i. p (a + 1 + i)) (λ i. p (a + suc i)) n (λ i. ap p (omega arith)) in
-    let here : p a ≡ p (a + 0) = ap p (omega arith) in
-    and_is _ _ ∙ ap₂ ◌and◌ here (range_from p n (a + 1) ∙ next) ∙ sym (all_front (λ i. p (a + i)) n)
+module _ {F : Type 0} {g : Mut F (ℕ × Unit {0}) Bool} {f : F} {r : Bool} {u : _} (p : ℕ → Bool) (n : ℕ) where
+  pub all_below : ChecksAll nat_range_steps g (record { start = 0; end = n }) f r u → ((x : ℕ) (b : Bool) (q : F) → Called g f (x, tt) b q → (q ≡ f) × (b ≡ p x)) → r ≡ all p n
+  all_below d k = let e : n - 0 ≡ n = omega arith in all_from_yields_List p _ _ _ d (YieldsList-from_range 0 n n refl e) k ∙ all_of_range p n
 
--- what `all` answers on the numbers below n
-pub all_below : {F : Type 0} {g : Mut F (ℕ × Unit {0}) Bool} {f : F} {r : Bool} {u : _} (p : ℕ → Bool) (n : ℕ)
-    → ChecksAll nat_range_steps g (record { start = 0; end = n }) f r u
-    → ((x : ℕ) (b : Bool) (q : F) → Called g f (x, tt) b q → (q ≡ f) × (b ≡ p x)) → r ≡ all p n
-all_below p n d k =
-    let e : n - 0 ≡ n = omega arith in
-    all_from_yields_List p _ _ _ d (YieldsList-from_range 0 n n refl e) k ∙ range_from p n 0 ∙ all_same (λ i. p (0 + i)) p n (λ i. ap p (omega arith))
+  pub any_below : ChecksAny nat_range_steps g (record { start = 0; end = n }) f r u → ((x : ℕ) (b : Bool) (q : F) → Called g f (x, tt) b q → (q ≡ f) × (b ≡ p x)) → r ≡ some p n
+  any_below d k = let e : n - 0 ≡ n = omega arith in any_from_yields_List p _ _ _ d (YieldsList-from_range 0 n n refl e) k ∙ any_of_range p n

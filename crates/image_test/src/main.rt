@@ -1,18 +1,12 @@
 // The image test: 1 where an image is good. An empty and a working image, wrong lengths, then one byte of the working image changed at a time.
 #![tactic(auto)]
 
-ghost use Rattle.std.specs.Prelude.{◌<◌};
-
 use amount::Amount;
 use image::Image;
 use std::io;
 
 fn show(rt: &impl Print, good: bool) -> io::Result<()> {
     print!(rt; "{} ", u8::from(good))
-}
-
-fn end(rt: &impl Print) -> io::Result<()> {
-    println!(rt)
 }
 
 // Owner 2, token 48, operator 3, limits, time to live, approved set, a cap, tracked keys.
@@ -49,76 +43,70 @@ fn fill_tokens(image: &mut Image) {
     amount::write_amount(image, 20496, Amount::from(5));
 }
 
-// The image with one byte changed; the byte is put back.
-fn try_byte(rt: &impl Print, image: &mut Image, at: usize, byte: u8) -> io::Result<()>
-    requires { at < 36832 }
-{
-    let old = fields::get8(image, at);
-    fields::put8(image, at, byte);
-    let shown = show(rt, image::good_image(image));
-    fields::put8(image, at, old);
-    shown
+// The image with one byte changed.
+fn try_byte(rt: &impl Print, image: &Image, at: usize, byte: u8) -> io::Result<()> {
+    let mut changed = *image;
+    if let Some(place) = changed.get_mut(at) {
+        *place = byte;
+    }
+    show(rt, image::good_image(&changed))
 }
 
 // Flags and addresses; limits, pending owner and migration; any approved set is good.
-fn head(rt: &impl Print, image: &mut Image) -> io::Result<()> {
-    try_byte(rt, image, 0, 77)?;
-    try_byte(rt, image, 2, 64)?;
-    try_byte(rt, image, 3, 49)?;
-    try_byte(rt, image, 5, 1)?;
-    try_byte(rt, image, 7, 1)
-}
-
-fn limits(rt: &impl Print, image: &mut Image) -> io::Result<()> {
-    try_byte(rt, image, 23, 128)?;
-    try_byte(rt, image, 24, 0)?;
-    try_byte(rt, image, 40, 1)?;
-    try_byte(rt, image, 64, 1)?;
-    try_byte(rt, image, 72, 1)?;
-    end(rt)
-}
+const HEAD: [(usize, u8); 10] = [
+    (0, 77),
+    (2, 64),
+    (3, 49),
+    (5, 1),
+    (7, 1),
+    (23, 128),
+    (24, 0),
+    (40, 1),
+    (64, 1),
+    (72, 1),
+];
 
 // Capped set, reserved bytes, a cap; snapshots (a negative one is good), keys.
-fn caps(rt: &impl Print, image: &mut Image) -> io::Result<()> {
-    try_byte(rt, image, 80, 32)?;
-    try_byte(rt, image, 90, 1)?;
-    try_byte(rt, image, 160, 0)?;
-    try_byte(rt, image, 1120, 2)
-}
-
-fn snapshots(rt: &impl Print, image: &mut Image) -> io::Result<()> {
-    try_byte(rt, image, 1143, 128)?;
-    try_byte(rt, image, 1144, 1)?;
-    try_byte(rt, image, 1505, 5)?;
-    try_byte(rt, image, 1508, 1)?;
-    end(rt)
-}
+const CAPS: [(usize, u8); 8] = [
+    (80, 32),
+    (90, 1),
+    (160, 0),
+    (1120, 2),
+    (1143, 128),
+    (1144, 1),
+    (1505, 5),
+    (1508, 1),
+];
 
 // Kinds and tolls; holdings and credits of a present token and of an absent one.
-fn tokens(rt: &impl Print, image: &mut Image) -> io::Result<()> {
-    try_byte(rt, image, 3680, 3)?;
-    try_byte(rt, image, 3681, 1)?;
-    try_byte(rt, image, 3703, 128)?;
-    try_byte(rt, image, 3712, 1)
-}
+const TOKENS: [(usize, u8); 10] = [
+    (3680, 3),
+    (3681, 1),
+    (3703, 128),
+    (3712, 1),
+    (4095, 128),
+    (20511, 128),
+    (5088, 1),
+    (21472, 1),
+    (36831, 1),
+    (3680, 2),
+];
 
-fn holdings(rt: &impl Print, image: &mut Image) -> io::Result<()> {
-    try_byte(rt, image, 4095, 128)?;
-    try_byte(rt, image, 20511, 128)?;
-    try_byte(rt, image, 5088, 1)?;
-    try_byte(rt, image, 21472, 1)?;
-    try_byte(rt, image, 36831, 1)?;
-    try_byte(rt, image, 3680, 2)?;
-    end(rt)
+// A line for the changes, each of the whole image.
+fn damage(rt: &impl Print, image: &Image, changes: &[(usize, u8)]) -> io::Result<()> {
+    for &(at, byte) in changes {
+        try_byte(rt, image, at, byte)?;
+    }
+    println!(rt)
 }
 
 // An image of zeros, and a part of it.
-fn empty(rt: &impl Print, image: &mut Image) -> io::Result<()> {
+fn empty(rt: &impl Print, image: &Image) -> io::Result<()> {
     show(rt, image::good_image(image))?;
     show(rt, image::good_image(&image[0..36831]))?;
     show(rt, image::good_image(&image[0..0]))?;
     try_byte(rt, image, 72, 1)?;
-    end(rt)
+    println!(rt)
 }
 
 fn fill(rt: &impl Print, image: &mut Image) -> io::Result<()> {
@@ -126,21 +114,14 @@ fn fill(rt: &impl Print, image: &mut Image) -> io::Result<()> {
     fill_middle(image);
     fill_tokens(image);
     show(rt, image::good_image(image))?;
-    end(rt)
-}
-
-fn damage(rt: &impl Print, image: &mut Image) -> io::Result<()> {
-    head(rt, image)?;
-    limits(rt, image)?;
-    caps(rt, image)?;
-    snapshots(rt, image)?;
-    tokens(rt, image)?;
-    holdings(rt, image)
+    println!(rt)
 }
 
 fn main(rt: HostRuntime) -> io::Result<()> {
     let mut image = [0u8; image::LENGTH];
-    empty(&rt, &mut image)?;
+    empty(&rt, &image)?;
     fill(&rt, &mut image)?;
-    damage(&rt, &mut image)
+    damage(&rt, &image, &HEAD)?;
+    damage(&rt, &image, &CAPS)?;
+    damage(&rt, &image, &TOKENS)
 }

@@ -15,18 +15,12 @@ use amount::Amount;
 use image::{Address, Flag, Image, Token};
 use refusal::Refusal;
 
-#[tactic(auto, using(crate::specs::Room::there, crate::specs::Room::none_yet, crate::specs::Room::none_more))]
 fn is_tracked(img: &Image, k: u16) -> bool
     requires { Keys img.now }
     ensures { result ≡ tracked img.now (tracked_count img.now) k }
 {
-    let n = fields::get64(img, image::TRACKED_COUNT);
-    for i in 0..n {
-        if fields::get16(img, image::TRACKED_KEYS + 2 * (i as usize)) == k {
-            return true;
-        }
-    }
-    false
+    let n = fields::get64(img, image::TRACKED_COUNT) as usize;
+    (0..n).any(|i| fields::get16(img, image::TRACKED_KEYS + 2 * i) == k)
 }
 
 // Keys are distinct and below 1,088, so that there is room for one that is not tracked yet.
