@@ -9,29 +9,43 @@ ghost use Rattle.trial_records.specs.Trial.{draws_from, laid, head_fields, trial
 ghost use Rattle.trial_records.specs.Parts.{draws_of};
 ghost use Rattle.trial_records.specs.Theorems.{TrialRecords};
 
+use record::{LENGTH, Record};
 use refusal::Refusal;
 
 const MULTIPLIER: u64 = 6364136223846793005;
 
 const INCREMENT: u64 = 1442695040888963407;
 
-#[tactic(auto, unfolding(crate::specs::Generator::next))]
-fn next(last: u64) -> u64
-    ensures { result ≡ next last }
-{
-    MULTIPLIER.wrapping_mul(last).wrapping_add(INCREMENT)
+// The last record's number is below it.
+const RECORDS_END: u64 = 1 << 32;
+
+// The generator, by its last number.
+#[derive(Clone, Copy)]
+struct Generator {
+    last: u64,
 }
 
-// The upper 32 bits, below a bound.
-#[tactic(auto, unfolding(crate::specs::Generator::draw))]
-fn draw_below(number: u64, bound: u32) -> u32
-    requires { 0 < bound }
-    ensures { (result ≡ draw number % bound) × (result < bound) }
-{
-    (number >> 32) as u32 % bound
+impl Generator {
+    // The upper 32 bits of the next number.
+    #[tactic(auto, unfolding(crate::specs::Generator::next, crate::specs::Generator::draw))]
+    fn draw(&mut self) -> u32
+        ensures reached { self.new.last ≡ next self.old.last }
+        ensures drawn { result ≡ draw (next self.old.last) }
+    {
+        self.last = MULTIPLIER.wrapping_mul(self.last).wrapping_add(INCREMENT);
+        (self.last >> 32) as u32
+    }
+
+    fn draw_below(&mut self, bound: u8) -> u8
+        requires { 0 < bound }
+        ensures reached { self.new.last ≡ next self.old.last }
+        ensures drawn { (result ≡ draw (next self.old.last) % bound) × (result < bound) }
+    {
+        (self.draw() % u32::from(bound)) as u8
+    }
 }
 
-// What six draws make, and the number that they reach.
+// What six draws make.
 #[derive(Clone, Copy)]
 struct Draws {
     operation: u8,
@@ -40,43 +54,34 @@ struct Draws {
     other: u8,
     flag: u8,
     amount: u64,
-    reached: u64,
 }
 
-// A draw is below its bound, so that the casts lose nothing.
 #[tactic(auto, unfolding(crate::specs::Trial::draws_from, crate::specs::Generator::steps))]
-fn six_draws(last: u64) -> Draws
-    ensures { (draws_of result ≡ draws_from last) × (result.reached ≡ steps 6 last) }
+fn six_draws(generator: &mut Generator) -> Draws
+    ensures drawn { draws_of result ≡ draws_from generator.old.last }
+    ensures reached { generator.new.last ≡ steps 6 generator.old.last }
 {
-    let a = next(last);
-    let b = next(a);
-    let c = next(b);
-    let d = next(c);
-    let e = next(d);
-    let f = next(e);
     Draws {
-        operation: draw_below(a, 30) as u8 + 1,
-        caller: draw_below(b, 64) as u8,
-        token: draw_below(c, 64) as u8,
-        other: draw_below(d, 64) as u8,
-        flag: draw_below(e, 2) as u8,
-        amount: u64::from(draw_below(f, 1001)),
-        reached: f,
+        operation: generator.draw_below(30) + 1,
+        caller: generator.draw_below(64),
+        token: generator.draw_below(64),
+        other: generator.draw_below(64),
+        flag: generator.draw_below(2),
+        amount: u64::from(generator.draw() % 1001),
     }
 }
 
 // Below 2^64: the high half of the amount is zero.
 #[tactic(auto, using(crate::proofs::Fields::small_put))]
-fn put_amount(rec: &mut [u8], at: usize, x: u64)
-    requires { at + 16 ≤ length rec.old }
+fn put_amount(rec: &mut Record, at: usize, x: u64)
+    requires { at + 16 ≤ 448 }
     ensures { rec.new ≡ put 16 rec.old at x }
 {
     fields::put64(rec, at, x);
     fields::put64(rec, at + 8, 0);
 }
 
-fn put_head(rec: &mut [u8], d: Draws)
-    requires { length rec.old ≡ 448 }
+fn put_head(rec: &mut Record, d: Draws)
     ensures { rec.new ≡ laid rec.old (head_fields (draws_of d)) }
 {
     fields::put8(rec, 0, d.operation);
@@ -87,8 +92,7 @@ fn put_head(rec: &mut [u8], d: Draws)
     fields::put8(rec, 5, 1);
 }
 
-fn put_record(rec: &mut [u8], d: Draws, number: u32)
-    requires { length rec.old ≡ 448 }
+fn put_record(rec: &mut Record, d: Draws, number: u32)
     ensures { rec.new ≡ laid rec.old (trial_fields (draws_of d) number) }
 {
     put_head(rec, d);
@@ -100,28 +104,28 @@ fn put_record(rec: &mut [u8], d: Draws, number: u32)
     put_amount(rec, 72, d.amount);
 }
 
-// The number that its draws reach is returned.
 #[tactic(auto, unfolding(crate::specs::Trial::trial_record, crate::specs::Trial::record_of))]
-fn make_record(rec: &mut [u8], last: u64, number: u32) -> u64
-    requires { length rec.old ≡ 448 }
-    ensures { (rec.new ≡ trial_record last number) × (result ≡ steps 6 last) }
+fn make_record(generator: &mut Generator, number: u32) -> Record
+    ensures made { result ≡ trial_record generator.old.last number }
+    ensures reached { generator.new.last ≡ steps 6 generator.old.last }
 {
-    let d = six_draws(last);
-    rec.fill(0);
-    put_record(rec, d, number);
-    d.reached
+    let mut rec = [0u8; LENGTH];
+    put_record(&mut rec, six_draws(generator), number);
+    rec
 }
 
+// By index: what a slice holds after `chunks_exact_mut` or `as_chunks_mut` is not known.
 fn make_records(start: u64, first: u64, records: &mut [u8]) -> u64
     requires { (length records.old % 448 ≡ 0) × (first + length records.old / 448 ≤ 2 ^ 32) }
     ensures { (records.new ≡ records_from start first (length records.old / 448)) × (result ≡ reached_from start (length records.old / 448)) }
 {
-    let mut last = start;
-    for i in 0..records.len() / 448 {
+    let mut generator = Generator { last: start };
+    for i in 0..records.len() / LENGTH {
         let number = first + i as u64;
-        last = make_record(&mut records[448 * i..448 * i + 448], last, number as u32);
+        let rec = make_record(&mut generator, number as u32);
+        records[LENGTH * i..LENGTH * i + LENGTH].copy_from_slice(&rec);
     }
-    last
+    generator.last
 }
 
 // A first number above 2^32 comes before the sum, which could pass 2^64.
@@ -129,16 +133,8 @@ fn make_records(start: u64, first: u64, records: &mut [u8]) -> u64
 fn trial_check(first: u64, bytes: usize) -> Result<(), Refusal>
     ensures { code result ≡ trial_number first bytes }
 {
-    if bytes % 448 != 0 {
-        return Err(Refusal::InvalidRecord);
-    }
-    if first == 0 {
-        return Err(Refusal::InvalidRecord);
-    }
-    if first > 4294967296 {
-        return Err(Refusal::InvalidRecord);
-    }
-    if first + (bytes / 448) as u64 > 4294967296 {
+    let count = (bytes / LENGTH) as u64;
+    if bytes % LENGTH != 0 || first == 0 || first > RECORDS_END || first + count > RECORDS_END {
         return Err(Refusal::InvalidRecord);
     }
     Ok(())

@@ -1,5 +1,5 @@
 -- `trial_records::make_records` meets its contract: i records are made.
-use Rattle.std.proofs.Common.{ℕ, ◌+◌, ◌*◌, ◌-◌, List, ◌++◌, take, drop, ap, arith}
+use Rattle.std.proofs.Common.{ℕ, ◌+◌, ◌*◌, ◌-◌, List, ◌++◌, take, drop, ap, ◌∙◌, arith}
 use Rattle.trial_records.proofs.Made.{making_starts, making_more, making_ends}
 use Rattle.trial_records.proofs.make_records.Goals as goal
 
@@ -10,15 +10,15 @@ pub loop-i-preserved : goal.loop-i-preserved
 loop-i-preserved c =
     let x = c.args in
     let l = c.loop-i in
-    let step = c.make_record-last in
+    let step = c.make_record-rec.ensures in
     let at = 448 * l.i in
     let k = 448 * l.i + 448 - 448 * l.i in
-    rw step.ensures.1
-    (making_more x.start x.first x.records.now l.i l.last l.records _ k l.invariant (omega arith)
-    (ap (λ (r : List ℕ). take at l.records ++ (r ++ drop k (drop at l.records))) step.ensures.0))
+    rw step.reached
+    (making_more x.start x.first x.records.now l.i l.generator.last l.records _ k l.invariant (omega arith)
+    (ap (λ (r : List ℕ). take at l.records ++ (r ++ drop k (drop at l.records))) (c.copy_from_slice.ensures.after ∙ step.made)))
 
 pub returns : goal.returns
 returns c =
     let x = c.args in
     let l = c.loop-i in
-    making_ends x.start x.first x.records.now l.i l.last l.records l.invariant (omega arith) c.requires.0
+    making_ends x.start x.first x.records.now l.i l.generator.last l.records l.invariant (omega arith) c.requires.0
