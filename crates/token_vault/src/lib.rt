@@ -9,7 +9,6 @@ ghost use Rattle.image.specs.Layout.{cells};
 ghost use Rattle.outcome.specs.Outcome.{Views, value_of, count_of};
 ghost use Rattle.storage.specs.Facts.{Good};
 ghost use Rattle.record.specs.Form.{reads_caller, reads_token};
-ghost use Rattle.record.specs.Head.{HeadOf};
 ghost use Rattle.record.specs.Views.{view_number};
 ghost use Rattle.operations.specs.Operations.{view_outcome};
 ghost use Rattle.journal.specs.Calls.{Call};
@@ -25,7 +24,7 @@ ghost use Rattle.token_vault.specs.Public.{CallIs, CallAlone, closed_journal, Jo
 use events::Buffer;
 use image::Image;
 use outcome::{Answer, Done};
-use record::{Head, Operation, Record, View};
+use record::{Head, Operation, Parsed, View};
 use refusal::Refusal;
 
 // The cells of sixteen bytes of an image.
@@ -58,12 +57,12 @@ fn run_view(image: &Image, view: View, head: Head, events: &mut Buffer) -> Answe
 }
 
 // An operation on good bytes, on a copy of the image.
-fn try_operation(copy: &mut Image, rec: &Record, head: Head, events: &mut Buffer) -> Answer
-    requires { Good copy.old × (call_number rec.now events.old ≡ 0) × HeadOf rec.now head }
-    ensures { Tries (op copy.old rec.now events.old) result copy.new events.new }
+fn try_operation(copy: &mut Image, parsed: Parsed<'_>, events: &mut Buffer) -> Answer
+    requires { Good copy.old × (call_number parsed.rec.now events.old ≡ 0) }
+    ensures { Tries (op copy.old parsed.entry.rec.now events.old) result copy.new events.new }
 {
     events::clear_events(events);
-    let answer = operations::operate(copy, rec, head, events);
+    let answer = operations::operate(copy, parsed, events);
     if answer.is_err() {
         events::clear_events(events);
     }
@@ -94,15 +93,14 @@ fn keep(image: &mut Image, journal: &mut [u8], copy: &Image) -> Result<(), Refus
 fn run_operation(
     image: &mut Image,
     journal: &mut [u8],
-    rec: &Record,
-    head: Head,
+    parsed: Parsed<'_>,
     events: &mut Buffer,
 ) -> Answer
-    requires { Good image.old × (good_journal cells journal.old ≡ true) × (call_number rec.now events.old ≡ 0) × HeadOf rec.now head }
-    ensures { Replies (operated cells false (vault image.old journal.old) (op image.old rec.now events.old)) result events.new image.new journal.new }
+    requires { Good image.old × (good_journal cells journal.old ≡ true) × (call_number parsed.rec.now events.old ≡ 0) }
+    ensures { Replies (operated cells false (vault image.old journal.old) (op image.old parsed.entry.rec.now events.old)) result events.new image.new journal.new }
 {
     let mut copy = *image;
-    let done = try_operation(&mut copy, rec, head, events)?;
+    let done = try_operation(&mut copy, parsed, events)?;
     if let Err(refusal) = keep(image, journal, &copy) {
         events::clear_events(events);
         return Err(refusal);
@@ -120,13 +118,13 @@ fn state_check(is_image_good: bool, journal: &[u8]) -> Result<(), Refusal>
 }
 
 // 32, 33.
-fn call_check(rec: &[u8], events: &[u8]) -> Result<Head, Refusal>
+fn call_check<'a>(rec: &'a [u8], events: &[u8]) -> Result<Parsed<'a>, Refusal>
     ensures number { code result ≡ call_number rec.now events.now }
-    ensures head { IfOk result (λ head. HeadOf rec.now head) }
+    ensures parsed { IfOk result (λ parsed. parsed.rec.now ≡ rec.now) }
 {
-    let head = record::parse(rec)?;
+    let parsed = record::parse(rec)?;
     events::buffer_check(events)?;
-    Ok(head)
+    Ok(parsed)
 }
 
 fn answer_call(image: &mut [u8], journal: &mut [u8], rec: &[u8], events: &mut [u8]) -> Answer
@@ -134,14 +132,13 @@ fn answer_call(image: &mut [u8], journal: &mut [u8], rec: &[u8], events: &mut [u
 {
     let is_image_good = image::good_image(image);
     state_check(is_image_good, journal)?;
-    let head = call_check(rec, events)?;
+    let parsed = call_check(rec, events)?;
     let image: &mut Image = image.as_mut_array().unwrap();
     let events: &mut Buffer = events.as_mut_array().unwrap();
-    if let Operation::View(view) = head.operation {
-        return run_view(image, view, head, events);
+    if let Operation::View(view) = parsed.head.operation {
+        return run_view(image, view, parsed.head, events);
     }
-    let rec: &Record = rec.as_array().unwrap();
-    run_operation(image, journal, rec, head, events)
+    run_operation(image, journal, parsed, events)
 }
 
 // A call: its number; value and event count are written for every answer.
@@ -175,15 +172,15 @@ pub fn call_without_journal(
 
 // A view reads the image, any other operation runs on a copy of it.
 #[tactic(auto, using(crate::proofs::Accepted::form_zero, record::specs::Head::head_token, record::specs::Head::head_caller, crate::proofs::Called::looked))]
-fn preview_operation(image: &Image, rec: &Record, head: Head, events: &mut Buffer) -> Answer
-    requires { Good image.now × (call_number rec.now events.old ≡ 0) × HeadOf rec.now head }
-    ensures { Answers (op image.now rec.now events.old).answer result events.new }
+fn preview_operation(image: &Image, parsed: Parsed<'_>, events: &mut Buffer) -> Answer
+    requires { Good image.now × (call_number parsed.rec.now events.old ≡ 0) }
+    ensures { Answers (op image.now parsed.entry.rec.now events.old).answer result events.new }
 {
-    match head.operation {
-        Operation::View(view) => run_view(image, view, head, events),
+    match parsed.head.operation {
+        Operation::View(view) => run_view(image, view, parsed.head, events),
         _ => {
             let mut copy = *image;
-            try_operation(&mut copy, rec, head, events)
+            try_operation(&mut copy, parsed, events)
         }
     }
 }
@@ -192,11 +189,10 @@ fn answer_preview(image: &[u8], rec: &[u8], events: &mut [u8]) -> Answer
     ensures { Answers (preview_answer image.now rec.now events.old) result events.new }
 {
     refusal::refuse_if(!image::good_image(image), Refusal::InvalidImage)?;
-    let head = call_check(rec, events)?;
+    let parsed = call_check(rec, events)?;
     let image: &Image = image.as_array().unwrap();
-    let rec: &Record = rec.as_array().unwrap();
     let events: &mut Buffer = events.as_mut_array().unwrap();
-    preview_operation(image, rec, head, events)
+    preview_operation(image, parsed, events)
 }
 
 // A preview: what a call without a journal would answer. The image is lent to read, and there is no journal.

@@ -15,24 +15,24 @@ returns-in_err-state_check c =
     let s = silent _ _ c.from_residual.ensures in
     stops _ _ (bad_state x.image.now x.journal.now c.good_image-is_image_good.ensures e (operation x.rec.now x.events.now) (some_number _)) s refl
 
-pub returns-in_err-head : goal.returns-in_err-head
-returns-in_err-head c =
+pub returns-in_err-parsed : goal.returns-in_err-parsed
+returns-in_err-parsed c =
     let x = c.args in
     let (g, h) = good_state _ _ c.good_image-is_image_good.ensures c.in_ok-state_check.ensures refl in
-    stops _ _ (bad_call x.image.now x.journal.now x.rec.now x.events.now g h c.in_err-head.ensures.number (some_number _)) (silent _ _ c.from_residual-in_err-head.ensures) refl
+    stops _ _ (bad_call x.image.now x.journal.now x.rec.now x.events.now g h c.in_err-parsed.ensures.number (some_number _)) (silent _ _ c.from_residual-in_err-parsed.ensures) refl
 
 pub unwrap-image-requires : goal.unwrap-image-requires
 unwrap-image-requires c = c.as_mut_array.ensures.variant.1 (facts _ (good_state _ _ c.good_image-is_image_good.ensures c.in_ok-state_check.ensures refl).0).long
 
 pub unwrap-events-requires : goal.unwrap-events-requires
-unwrap-events-requires c = c.as_mut_array-2.ensures.variant.1 (call_long _ _ (sym c.in_ok-head.ensures.number)).1
+unwrap-events-requires c = c.as_mut_array-2.ensures.variant.1 (call_long _ _ (sym c.in_ok-parsed.ensures.number)).1
 
 pub run_view-requires : goal.run_view-requires
 run_view-requires c =
     let x = c.args in
     let i = rw c.unwrap-image.ensures at c.as_mut_array.ensures in
-    let h = c.in_ok-head.ensures in
-    let f = head_fields x.rec.now x.events.now _ c.in-View.view h.number h.head c.in-View.is in
+    let h = c.in_ok-parsed.ensures in
+    let f = head_fields x.rec.now x.events.now _ c.in-View.view h.number (rw h.parsed at c.in_ok-parsed.parsed.read) c.in-View.is in
     (rw i.cases.same (facts _ (good_state _ _ c.good_image-is_image_good.ensures c.in_ok-state_check.ensures refl).0), f.0, f.1)
 
 pub returns-in-View : goal.returns-in-View
@@ -40,22 +40,18 @@ returns-in-View c =
     let x = c.args in
     let (g, k) = good_state _ _ c.good_image-is_image_good.ensures c.in_ok-state_check.ensures refl in
     let i = rw c.unwrap-image.ensures at c.as_mut_array.ensures in
-    let h = c.in_ok-head.ensures in
+    let h = c.in_ok-parsed.ensures in
     let w = rw i.cases.same at c.run_view.ensures in
     rw i.cases.same
-    (replies (view_step x.image.now x.journal.now x.rec.now x.events.now g k (head_view x.rec.now c.in_ok-head.head c.in-View.view h.head c.in-View.is))
-    (looked x.image.now x.rec.now x.events.now c.in_ok-head.head c.in-View.view _ (sym h.number) h.head c.in-View.is w.0 w.1))
-
-pub unwrap-rec-requires : goal.unwrap-rec-requires
-unwrap-rec-requires c = c.as_array.ensures.variant.1 (call_long _ _ (sym c.in_ok-head.ensures.number)).0
+    (replies (view_step x.image.now x.journal.now x.rec.now x.events.now g k (head_view x.rec.now c.in_ok-parsed.parsed.head c.in-View.view (rw h.parsed at c.in_ok-parsed.parsed.read) c.in-View.is))
+    (looked x.image.now x.rec.now x.events.now c.in_ok-parsed.parsed.head c.in-View.view _ (sym h.number) (rw h.parsed at c.in_ok-parsed.parsed.read) c.in-View.is w.0 w.1))
 
 pub run_operation-requires : goal.run_operation-requires
 run_operation-requires c =
     let (g, k) = good_state _ _ c.good_image-is_image_good.ensures c.in_ok-state_check.ensures refl in
     let i = rw c.unwrap-image.ensures at c.as_mut_array.ensures in
     let e = rw c.unwrap-events.ensures at c.as_mut_array-2.ensures in
-    let r = rw c.unwrap-rec.ensures at c.as_array.ensures in
-    rw (i.cases.same, e.cases.same, r.cases.same) (facts _ g, k, sym c.in_ok-head.ensures.number, c.in_ok-head.ensures.head)
+    rw (i.cases.same, e.cases.same, c.in_ok-parsed.ensures.parsed) (facts _ g, k, sym c.in_ok-parsed.ensures.number)
 
 pub returns : goal.returns
 returns c =
@@ -63,6 +59,5 @@ returns c =
     let (g, k) = good_state _ _ c.good_image-is_image_good.ensures c.in_ok-state_check.ensures refl in
     let i = rw c.unwrap-image.ensures at c.as_mut_array.ensures in
     let e = rw c.unwrap-events.ensures at c.as_mut_array-2.ensures in
-    let r = rw c.unwrap-rec.ensures at c.as_array.ensures in
-    rw (operated_is x.image.now x.journal.now x.rec.now x.events.now g k (head_no_view x.rec.now c.in_ok-head.head c.in_ok-head.ensures.head c.in_default.not-View))
-    (rw (i.cases.same, e.cases.same, r.cases.same) at c.run_operation.ensures)
+    rw (operated_is x.image.now x.journal.now x.rec.now x.events.now g k (head_no_view x.rec.now c.in_ok-parsed.parsed.head (rw c.in_ok-parsed.ensures.parsed at c.in_ok-parsed.parsed.read) c.in_default.not-View))
+    (rw (i.cases.same, e.cases.same, c.in_ok-parsed.ensures.parsed) at c.run_operation.ensures)

@@ -14,33 +14,28 @@ returns-in_err-refuse_if c =
     let (f, n) = bad_pick _ _ c.in_err-refuse_if.ensures in
     stopped 30 _ (preview_30 x.image.now x.rec.now x.events.now (sym c.good_image.ensures ∙ f)) (let s = silent _ _ c.from_residual.ensures in (s.0 ∙ n, s.1, s.2)) refl
 
-pub returns-in_err-head : goal.returns-in_err-head
-returns-in_err-head c =
+pub returns-in_err-parsed : goal.returns-in_err-parsed
+returns-in_err-parsed c =
     let x = c.args in
-    stopped _ _ (preview_malformed x.image.now x.rec.now x.events.now (sym c.good_image.ensures ∙ good_pick _ c.in_ok-refuse_if.ensures) c.in_err-head.ensures.number (some_number _)) (silent _ _ c.from_residual-in_err-head.ensures) refl
+    stopped _ _ (preview_malformed x.image.now x.rec.now x.events.now (sym c.good_image.ensures ∙ good_pick _ c.in_ok-refuse_if.ensures) c.in_err-parsed.ensures.number (some_number _)) (silent _ _ c.from_residual-in_err-parsed.ensures) refl
 
 pub unwrap-image-requires : goal.unwrap-image-requires
 unwrap-image-requires c = c.as_array.ensures.variant.1 (facts _ (sym c.good_image.ensures ∙ good_pick _ c.in_ok-refuse_if.ensures)).long
 
 pub unwrap-events-requires : goal.unwrap-events-requires
-unwrap-events-requires c = c.as_mut_array.ensures.variant.1 (call_long _ _ (sym c.in_ok-head.ensures.number)).1
-
-pub unwrap-rec-requires : goal.unwrap-rec-requires
-unwrap-rec-requires c = c.as_array-2.ensures.variant.1 (call_long _ _ (sym c.in_ok-head.ensures.number)).0
+unwrap-events-requires c = c.as_mut_array.ensures.variant.1 (call_long _ _ (sym c.in_ok-parsed.ensures.number)).1
 
 pub preview_operation-requires : goal.preview_operation-requires
 preview_operation-requires c =
     let i = rw c.unwrap-image.ensures at c.as_array.ensures in
     let e = rw c.unwrap-events.ensures at c.as_mut_array.ensures in
-    let r = rw c.unwrap-rec.ensures at c.as_array-2.ensures in
-    rw (i.cases.same, e.cases.same, r.cases.same)
-    (facts _ (sym c.good_image.ensures ∙ good_pick _ c.in_ok-refuse_if.ensures), sym c.in_ok-head.ensures.number, c.in_ok-head.ensures.head)
+    rw (i.cases.same, e.cases.same, c.in_ok-parsed.ensures.parsed)
+    (facts _ (sym c.good_image.ensures ∙ good_pick _ c.in_ok-refuse_if.ensures), sym c.in_ok-parsed.ensures.number)
 
 pub returns : goal.returns
 returns c =
     let x = c.args in
     let i = rw c.unwrap-image.ensures at c.as_array.ensures in
     let e = rw c.unwrap-events.ensures at c.as_mut_array.ensures in
-    let r = rw c.unwrap-rec.ensures at c.as_array-2.ensures in
     rw (preview_good x.image.now x.rec.now x.events.now (sym c.good_image.ensures ∙ good_pick _ c.in_ok-refuse_if.ensures))
-    (rw (i.cases.same, e.cases.same, r.cases.same) at c.preview_operation.ensures)
+    (rw (i.cases.same, e.cases.same, c.in_ok-parsed.ensures.parsed) at c.preview_operation.ensures)

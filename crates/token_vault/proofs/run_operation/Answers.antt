@@ -15,14 +15,14 @@ returns-in_err-done c =
     let t = c.in_err-done.ensures in
     let p = err_from_is_err_and c.from_residual.result c.from_residual.ensures.1 in
     rw (p.1, p.2)
-    (replies (operated-refused cells (vault x.image.now x.journal.now) (op x.image.now x.rec.now x.events.now) _ (λ z. some_number _ (t.answered.numbered ∙ z))) t.answered)
+    (replies (operated-refused cells (vault x.image.now x.journal.now) (op x.image.now x.parsed.rec.now x.events.now) _ (λ z. some_number _ (t.answered.numbered ∙ z))) t.answered)
 
 pub returns-in-Err : goal.returns-in-Err
 returns-in-Err c =
     let x = c.args in
     let t = c.in_ok-done.ensures in
     let z = sym t.answered.numbered in
-    let f = kept_full x.image.now _ x.journal.now c.in-Err.ensures (op x.image.now x.rec.now x.events.now) z (t.changed z) (some_number _) in
+    let f = kept_full x.image.now _ x.journal.now c.in-Err.ensures (op x.image.now x.parsed.rec.now x.events.now) z (t.changed z) (some_number _) in
     rw (f.2, f.3) (stops 34 blank f.0 (f.1, refl, refl) (c.clear_events.ensures ∙ blank_is))
 
 pub returns : goal.returns
@@ -30,4 +30,4 @@ returns c =
     let x = c.args in
     let t = c.in_ok-done.ensures in
     let z = sym t.answered.numbered in
-    replies (kept-done x.image.now _ x.journal.now c.in_default.ensures (op x.image.now x.rec.now x.events.now) z (t.changed z) refl) t.answered
+    replies (kept-done x.image.now _ x.journal.now c.in_default.ensures (op x.image.now x.parsed.rec.now x.events.now) z (t.changed z) refl) t.answered
