@@ -1,10 +1,12 @@
 -- One piece of records, and what is left after it.
-use Rattle.std.proofs.Common.{◌≡◌, ℕ, ◌+◌, ◌*◌, ◌^◌, ◌≤◌, List, length, ap, ◌∙◌}
+use Rattle.std.proofs.Common.{◌≡◌, ℕ, ◌+◌, ◌*◌, ◌^◌, ◌≤◌, List, ◌++◌, length, ap, ap₂, sym, subst, ◌∙◌, Option}
+use Rattle.std.specs.Io.KnownBytes.{Appends}
+use Rattle.std.proofs.KnownBytes.{Appends-trans}
 use Rattle.std.specs.Prelude.{Result, Ok, Err, IsOk, refl}
 use Rattle.refusal.specs.declared.Refusal.{Refusal}
 use Rattle.refusal.specs.Numbers.{code}
 use Rattle.refusal.specs.Laws.{some_number}
-use Rattle.trial_records.specs.Laws.{records_made}
+use Rattle.trial_records.specs.Laws.{records_made, records_parts}
 use Rattle.trial_records.specs.Trial.{Trial, records_from, reached_from, trial, TrialIs}
 
 -- n records were made in the buffer l, and m came of it
@@ -26,3 +28,11 @@ pub piece_done : (last next n : ℕ) (l m : List ℕ) (r : Result ℕ Refusal) (
     → TrialIs (trial last next l) (code r) m reached → IsOk r
 piece_done last next n l m r reached p b e t =
     has_value r (t.numbered ∙ ap (λ (x : Trial). x.number) (records_made last next n l e p b))
+
+-- n records more are written behind the first `done`
+pub more_written : (start first done n k : ℕ) {last next : ℕ} {piece : List ℕ} (old mid new : Option (List ℕ)) → last ≡ reached_from start done → next ≡ first + done → piece ≡ records_from last next n → done + n ≡ k
+    → Appends old mid (records_from start first done) → Appends mid new piece → Appends old new (records_from start first k)
+more_written start first done n k old mid new e f p h written more =
+    subst (Appends _ _)
+    (ap (λ (l : List ℕ). records_from start first done ++ l) (p ∙ ap₂ (λ (x y : ℕ). records_from x y n) e f) ∙ sym (records_parts start first done n) ∙ ap (records_from start first) h)
+    (Appends-trans _ _ _ _ _ written more)

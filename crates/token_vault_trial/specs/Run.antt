@@ -1,7 +1,8 @@
 -- What the program does: the arguments as it has read them, its faults by their numbers, and the records that are asked for.
-use Rattle.std.specs.Prelude.{◌≡◌, List, ℕ, ◌+◌, ◌^◌, ◌<◌, ◌≤◌, Option, Some, None, Result, Ok, Err, IfOk}
+use Rattle.std.specs.Prelude.{◌≡◌, List, ℕ, ◌+◌, ◌^◌, ◌<◌, ◌≤◌, Option, Some, None, is_some, Result, Ok, Err, IfOk}
 use Rattle.trial_records.specs.Trial.{records_from, reached_from}
-use Rattle.token_vault_trial.specs.Arguments.{Reading, malformed, number}
+use Rattle.token_vault_trial.specs.Arguments.{Reading, malformed, number, argument_fault}
+use Rattle.token_vault_trial.specs.declared.Arguments.{Arguments}
 use Rattle.token_vault_trial.specs.declared.Records.{Records}
 use Rattle.token_vault_trial.specs.declared.Fault.{Fault}
 use Rattle.token_vault_trial.specs.declared.Fault.TheVariants.{NotThree, Start, First, Count, FirstIsZero, LastTooLarge}
@@ -27,6 +28,10 @@ number_of LastTooLarge = 6
 abbrev pub code : {T : Type 0} → Result T Fault → ℕ
 code (Ok _) = 0
 code (Err fault) = number_of fault
+
+-- what is wrong with the arguments as they were read
+abbrev pub fault_of : Arguments → ℕ
+fault_of a = argument_fault a.words (is_some a.start) (is_some a.first) (is_some a.count) (number_or_zero a.first) (number_or_zero a.count)
 
 -- the records that the numbers ask for, none of which is refused
 pub record IsOrder (start first count : ℕ) (r : Records) : Type 0 where

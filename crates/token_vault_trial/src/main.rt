@@ -2,12 +2,12 @@
 // Where they are wrong, a line with a number goes to standard error and nothing to standard output; the exit status is 0 all the same.
 #![tactic(auto)]
 
-ghost use Rattle.std.specs.Prelude.{◌≡◌, ◌++◌, ◌+◌, ◌^◌, ◌<◌, ◌≤◌, length, Some, IfOk, OnOk, IsSome, is_some};
+ghost use Rattle.std.specs.Prelude.{◌≡◌, ◌++◌, ◌+◌, ◌^◌, ◌<◌, ◌≤◌, length, Some, IfOk, OnOk};
 ghost use Rattle.std.specs.Io.KnownBytes.{Appends};
 ghost use Rattle.std.specs.Fmt.{with_newline};
 ghost use Rattle.trial_records.specs.Trial.{records_from, reached_from};
-ghost use Rattle.token_vault_trial.specs.Arguments.{digits_after, read_decimal, argument_fault, fault_text, fault_line};
-ghost use Rattle.token_vault_trial.specs.Run.{reading_of, number_or_zero, number_of, code, IsOrder, IsPiece, RunIs};
+ghost use Rattle.token_vault_trial.specs.Arguments.{digits_after, read_decimal, fault_text, fault_line};
+ghost use Rattle.token_vault_trial.specs.Run.{reading_of, number_or_zero, number_of, code, fault_of, IsOrder, IsPiece, RunIs};
 
 use std::env::FillError;
 use std::io::Write;
@@ -96,30 +96,45 @@ struct Records {
 
 const RECORDS_END: u64 = 1 << 32;
 
-// The records that the arguments ask for, `words` counting the program's own name too.
-#[tactic(auto, unfolding(crate::specs::Arguments::argument_fault, fields::specs::Rules::verdict))]
-fn records_asked(
+// The arguments as they were read, `words` counting the program's own name too.
+#[derive(Clone, Copy)]
+struct Arguments {
     words: usize,
     start: Option<u64>,
     first: Option<u64>,
     count: Option<u64>,
-) -> Result<Records, Fault>
-    ensures fault { code result ≡ argument_fault words (is_some start) (is_some first) (is_some count) (number_or_zero first) (number_or_zero count) }
-    ensures numbers { IfOk result (IsOrder (number_or_zero start) (number_or_zero first) (number_or_zero count)) }
-{
-    if words != 4 {
-        return Err(Fault::NotThree);
+}
+
+impl Arguments {
+    fn read<E: Env>(env: &E) -> Arguments {
+        Arguments {
+            words: count_arguments(env),
+            start: read_argument(env, 1),
+            first: read_argument(env, 2),
+            count: read_argument(env, 3),
+        }
     }
-    let last = start.ok_or(Fault::Start)?;
-    let next = first.ok_or(Fault::First)?;
-    let left = count.ok_or(Fault::Count)?;
-    if next == 0 {
-        return Err(Fault::FirstIsZero);
+
+    // The records that they ask for.
+    #[tactic(auto, unfolding(crate::specs::Arguments::argument_fault, fields::specs::Rules::verdict))]
+    fn records(self) -> Result<Records, Fault>
+        ensures fault { code result ≡ fault_of self }
+        ensures numbers { IfOk result (IsOrder (number_or_zero self.start) (number_or_zero self.first) (number_or_zero self.count)) }
+    {
+        if self.words != 4 {
+            return Err(Fault::NotThree);
+        }
+        let last = self.start.ok_or(Fault::Start)?;
+        let next = self.first.ok_or(Fault::First)?;
+        let left = self.count.ok_or(Fault::Count)?;
+        if next == 0 {
+            return Err(Fault::FirstIsZero);
+        }
+        if next > RECORDS_END || left > RECORDS_END - next {
+            return Err(Fault::LastTooLarge);
+        }
+        Ok(Records { last, next, left })
     }
-    if next > RECORDS_END || left > RECORDS_END - next {
-        return Err(Fault::LastTooLarge);
-    }
-    Ok(Records { last, next, left })
 }
 
 impl Records {
@@ -160,15 +175,12 @@ fn write_records<O: Write>(output: &mut O, asked: Records) -> io::Result<u64>
 {
     let mut buffer = [0u8; 57344];
     let mut rest = asked;
-    let mut made = 0u64;
-    // A step is what a piece holds, so that there is no range to go over.
-    while rest.left > 0 {
+    for made in (0..asked.left).step_by(128) {
         let n = rest.left.min(128);
         let piece = rest.next_piece(n, &mut buffer);
         write_piece(output, piece, asked, made, n)?;
-        made += n;
     }
-    Ok(made)
+    Ok(asked.left)
 }
 
 // Every byte of standard error goes through here, and all of them are the line of a fault.
@@ -183,21 +195,14 @@ fn write_fault_line<E: Write, D: fmt::Display>(
     streams::print_line::<128, _, _>(error, line)
 }
 
-fn run<O: Write, E: Write>(
-    output: &mut O,
-    error: &mut E,
-    words: usize,
-    start: Option<u64>,
-    first: Option<u64>,
-    count: Option<u64>,
-) -> io::Result<u64>
-    ensures ended { RunIs (argument_fault words (is_some start) (is_some first) (is_some count) (number_or_zero first) (number_or_zero count)) (number_or_zero count) result }
-    ensures written { let fault = argument_fault words (is_some start) (is_some first) (is_some count) (number_or_zero first) (number_or_zero count) in fault ≡ 0 → OnOk result (Appends (O.contents output.old) (O.contents output.new) (records_from (number_or_zero start) (number_or_zero first) (number_or_zero count))) }
-    ensures no_record { let fault = argument_fault words (is_some start) (is_some first) (is_some count) (number_or_zero first) (number_or_zero count) in 0 < fault → output.new ≡ output.old }
-    ensures said { let fault = argument_fault words (is_some start) (is_some first) (is_some count) (number_or_zero first) (number_or_zero count) in 0 < fault → OnOk result (Appends (E.contents error.old) (E.contents error.new) (fault_line fault)) }
-    ensures nothing_said { let fault = argument_fault words (is_some start) (is_some first) (is_some count) (number_or_zero first) (number_or_zero count) in fault ≡ 0 → error.new ≡ error.old }
+fn run<O: Write, E: Write>(output: &mut O, error: &mut E, arguments: Arguments) -> io::Result<u64>
+    ensures ended { RunIs (fault_of arguments) (number_or_zero arguments.count) result }
+    ensures written { fault_of arguments ≡ 0 → OnOk result (Appends (O.contents output.old) (O.contents output.new) (records_from (number_or_zero arguments.start) (number_or_zero arguments.first) (number_or_zero arguments.count))) }
+    ensures no_record { 0 < fault_of arguments → output.new ≡ output.old }
+    ensures said { 0 < fault_of arguments → OnOk result (Appends (E.contents error.old) (E.contents error.new) (fault_line (fault_of arguments))) }
+    ensures nothing_said { fault_of arguments ≡ 0 → error.new ≡ error.old }
 {
-    match records_asked(words, start, first, count) {
+    match arguments.records() {
         Ok(records) => write_records(output, records),
         Err(fault) => {
             write_fault_line(error, &format_args!("token_vault_trial: {fault}"), fault)?;
@@ -207,17 +212,6 @@ fn run<O: Write, E: Write>(
 }
 
 fn main(rt: HostRuntime) {
-    let words = count_arguments(&rt);
-    let start = read_argument(&rt, 1);
-    let first = read_argument(&rt, 2);
-    let count = read_argument(&rt, 3);
-    run(
-        &mut rt.stdout(),
-        &mut rt.stderr(),
-        words,
-        start,
-        first,
-        count,
-    )
-    .ok();
+    let arguments = Arguments::read(&rt);
+    run(&mut rt.stdout(), &mut rt.stderr(), arguments).ok();
 }
