@@ -17,7 +17,7 @@ use Rattle.fields.specs.Same.{same_bytes_of, same_is, same_refl, same-append}
 use Rattle.fields.proofs.Loops.{le_same}
 use Rattle.journal.specs.Journal.{Entry, entry_bytes, entries_bytes, changed}
 use Rattle.journal.specs.Parts.{place_at, over, Found}
-use Rattle.journal.proofs.Chunks.{drop_take}
+use Rattle.fields.specs.Chunks.{drop_take}
 use Rattle.journal.proofs.Written.{length_entries}
 use Rattle.journal.proofs.Cells.{changed_order}
 use Rattle.journal.proofs.Backwards.{order_front}

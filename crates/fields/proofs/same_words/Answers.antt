@@ -1,30 +1,29 @@
 -- `fields::same_words` meets its contract.
-use Rattle.std.proofs.Common.{◌≡◌, ℕ, ◌+◌, ◌≤◌, eqb, List, length, take, get_or, bit_or, bit_xor, Fits, w8, arith}
+use Rattle.std.proofs.Common.{◌≡◌, ◌∙◌, ◌+◌, ◌*◌, ◌/◌, ap, add-zero, [], length, length-append, arith}
+use Rattle.std.proofs.lemmas.Slice.Zip.{zip_turn}
 use Rattle.fields.specs.Bytes.{le}
-use Rattle.fields.specs.Same.{same_bytes_of}
-use Rattle.fields.proofs.Loops.{same_none, word_step, same-done}
+use Rattle.fields.specs.Chunks.{chunk, le_part}
+use Rattle.fields.proofs.Loops.{same_none, word_step}
 use Rattle.fields.proofs.same_words.Goals as goal
-use Rattle.fields.proofs.same_words.Goals.{else-loop-i-test, then-loop-i-test+else-i-end-i-gt8}
 
-pub loop-i-init : goal.loop-i-init
-loop-i-init c = (omega arith, omega arith, same_none c.args.a.now c.args.b.now)
+pub loop-x-init : goal.loop-x-init
+loop-x-init c = same_none c.args.a.now c.args.b.now
 
--- the step of one word, in the loop and at the last
-step : (a b : List ℕ) → ((k : ℕ) → Fits w8 (get_or a k 0)) → ((k : ℕ) → Fits w8 (get_or b k 0)) → (i d p q : ℕ) → p ≡ le 8 a i → q ≡ le 8 b i → i + 8 ≤ length a → length a ≡ length b
-    → eqb d 0 ≡ same_bytes_of (take i a) (take i b) → eqb (bit_or d (bit_xor p q)) 0 ≡ same_bytes_of (take (i + 8) a) (take (i + 8) b)
-step a b ha hb i d p q u v h l e = rw (u, v) (word_step 8 a b i d (λ k. omega (arith, ha k)) (λ k. omega (arith, hb k)) h (omega arith) e)
-
-pub loop-i-preserved : goal.loop-i-preserved
-loop-i-preserved c =
-    let l = c.loop-i in
-    let x = c.args in
-    (omega arith, omega arith, step x.a.now x.b.now c.type_inv.a c.type_inv.b l.i l.difference _ _ c.get64.ensures c.get64-in-loop-i.ensures (omega arith) c.requires.0 l.invariant.2)
-
-pub returns : goal.returns
-returns c =
-    let l = c.loop-i in
-    let x = c.args in
-    elim c.loop-i-test.branch [
-      | else-loop-i-test w ↦ rw w.difference-is (same-done x.a.now x.b.now l.i l.difference (omega arith) (omega arith) l.invariant.2)
-      | then-loop-i-test+else-i-end-i-gt8 w ↦ rw w.difference-is (same-done x.a.now x.b.now (l.i + 8) _ (omega arith) (omega arith) (step x.a.now x.b.now c.type_inv.a c.type_inv.b l.i l.difference _ _ w.get64.ensures w.get64-in-loop-i.ensures (omega arith) c.requires.0 l.invariant.2))
-    ]
+pub loop-x-preserved : goal.loop-x-preserved
+unfolding le
+loop-x-preserved c =
+    let l = c.loop-x in
+    let a = c.args.a.now in
+    let b = c.args.b.now in
+    let k = length l.yielded in
+    let p = c.as_chunks.ensures in
+    let q = c.as_chunks-2.ensures in
+    let t = zip_turn c.as_chunks.result.0.now c.as_chunks-2.result.0.now l.yielded c.into_iter-x-iterator.result l.x-iterator c.next.new.self c.next.result (cc) (cc) l.yielded_by _ c.in-Some.is c.next.ensures.steps in
+    let z : 8 * k + 0 ≡ 8 * k = add-zero (8 * k) in
+    let x = t.2 [] ∙ chunk 8 (length a / 8) k a p.front (omega (arith, t.0, p.front_len)) in
+    let y = t.3 [] ∙ chunk 8 (length b / 8) k b q.front (omega (arith, t.1, q.front_len)) in
+    let u : c.from_le_bytes.result ≡ le 8 c.in-Some.x.now 0 = omega arith in
+    let v : c.from_le_bytes-in-loop-x.result ≡ le 8 c.in-Some.y.now 0 = omega arith in
+    let s : 8 * (k + 1) ≡ 8 * k + 8 = omega arith in
+    rw (length-append, s, u ∙ ap (λ i. le 8 i 0) x ∙ le_part 8 8 (8 * k) 0 a (omega arith) ∙ ap (le 8 a) z, v ∙ ap (λ i. le 8 i 0) y ∙ le_part 8 8 (8 * k) 0 b (omega arith) ∙ ap (le 8 b) z)
+    (word_step 8 a b (8 * k) l.difference (λ i. omega (arith, c.type_inv.a i)) (λ i. omega (arith, c.type_inv.b i)) (omega (arith, t.0, p.front_len)) (omega (arith, t.1, q.front_len)) l.invariant)

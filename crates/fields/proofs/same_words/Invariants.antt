@@ -1,7 +1,7 @@
 -- `fields::same_words` meets its contract.
-use Rattle.std.proofs.Common.{◌≡◌, ◌%◌, ◌≤◌, eqb, length, take}
+use Rattle.std.proofs.Common.{◌≡◌, ◌*◌, eqb, length, take}
 use Rattle.fields.specs.Same.{same_bytes_of}
 use Rattle.fields.proofs.same_words.Given as goal
 
-abbrev pub invariant-loop-i : goal.invariant-loop-i
-invariant-loop-i l = (l.i ≤ length l.a) × (l.i % 8 ≡ 0) × (eqb l.difference 0 ≡ same_bytes_of (take l.i l.a) (take l.i l.b))
+abbrev pub invariant-loop-x : goal.invariant-loop-x
+invariant-loop-x l = eqb l.difference 0 ≡ same_bytes_of (take (8 * length l.yielded) l.initial.a) (take (8 * length l.yielded) l.initial.b)

@@ -7,7 +7,8 @@ use lib.ListN.{length, get_or}
 use Rattle.std.specs.Simd.{first_chunks}
 use Rattle.fields.specs.Bytes.{le}
 use Rattle.journal.proofs.Backwards.{in_journal, none_taken, call_turn, stops_other}
-use Rattle.journal.proofs.Chunks.{entry_back, le_part}
+use Rattle.fields.specs.Chunks.{le_part}
+use Rattle.journal.proofs.Chunks.{entry_back}
 use Rattle.journal.specs.Journal.{contents_of}
 use Rattle.journal.proofs.earlier_entries.Goals as goal
 

@@ -3,7 +3,7 @@ use mathlib.Core.Path.{◌≡◌, refl, sym, ap, ◌∙◌}
 use Prim.Native.Nat.{ℕ, ◌+◌, ◌*◌, ◌-◌, ◌/◌}
 use native.Mathlib.Omega.{arith}
 use lib.ListN.{length, drop}
-use Rattle.journal.proofs.Chunks.{chunk}
+use Rattle.fields.specs.Chunks.{chunk}
 use Rattle.journal.proofs.Exact.{exact}
 use Rattle.journal.proofs.Stretches.{walk_starts, walk_ends, found_few, stretch_same, stretch_found, rest_all}
 use Rattle.journal.proofs.enter_cells.Goals as goal

@@ -4,7 +4,7 @@ use Prim.Native.Nat.{◌/◌}
 use native.Mathlib.Omega.{arith}
 use lib.ListN.{length}
 use Rattle.fields.specs.Same.{same_bytes_of}
-use Rattle.journal.proofs.Chunks.{chunk, chunk_long}
+use Rattle.fields.specs.Chunks.{chunk, chunk_long}
 use Rattle.journal.proofs.Stretches.{cell_of, walk_starts, walk_same, walk_full, walk_writes}
 use Rattle.journal.proofs.enter_span.Goals as goal
 use Rattle.journal.proofs.enter_span.Goals.{then-not-same+then-end-places, then-not-same+else-end-places, else-not-same}

@@ -4,7 +4,8 @@ use Rattle.std.specs.Simd.{first_chunks}
 use Rattle.fields.specs.Bytes.{le}
 use Rattle.fields.specs.Logic.{true_and, false_and}
 use Rattle.fields.specs.Zeros.{zeros, zeros_part}
-use Rattle.journal.proofs.Chunks.{entry_ahead, le_part, zeros_of}
+use Rattle.fields.specs.Chunks.{le_part, zeros_of}
+use Rattle.journal.proofs.Chunks.{entry_ahead}
 use Rattle.journal.proofs.Scanned.{turn_stops, turn_goes, turn_ends}
 use Rattle.journal.proofs.good_entries.Goals as goal
 use Rattle.journal.proofs.good_entries.Goals.{then-ordered, else-ordered}

@@ -8,7 +8,8 @@ use lib.Seq.{drop-length}
 use Rattle.std.specs.Simd.{first_chunks}
 use Rattle.fields.specs.Bytes.{le}
 use Rattle.journal.proofs.Backwards.{in_journal, in_image, put_turn}
-use Rattle.journal.proofs.Chunks.{entry_back, le_part, part_of}
+use Rattle.fields.specs.Chunks.{le_part, part_of}
+use Rattle.journal.proofs.Chunks.{entry_back}
 use Rattle.journal.specs.Journal.{contents_of, restore}
 use Rattle.journal.proofs.put_back.Goals as goal
 
