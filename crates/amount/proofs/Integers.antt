@@ -7,7 +7,7 @@ use borrow.Rule.Slice.PartMut.{put_mid}
 use Rattle.amount.specs.declared.Amount.{Amount}
 use Rattle.amount.specs.Biased.{biased_integer, biased, bias, in_range, amount_at, put_amount}
 use Rattle.amount.specs.Value.{fits_in, number_in, some_of, sum_is, difference_is, negative_is}
-use Rattle.amount.specs.Laws.{by_lt, bias_parts, full_parts, flip_back, amount_at-bytes}
+use Rattle.amount.specs.Laws.{biased_below, biased_from, by_lt, bias_parts, full_parts, flip_back, amount_at-bytes}
 use Rattle.std.specs.Prelude.{List, slice_index, length, take, drop, ◌≤◌}
 use Rattle.fields.specs.Bytes.{le, put, le_below, length-put, put_halves, put_split}
 use Rattle.amount.specs.Halves.{InRange, wrapped}
@@ -32,6 +32,18 @@ module _ (a b : Amount) (f : SFits w128 a.0) (g : SFits w128 b.0) where
 
   pub subtracted : local a.0 -ℤ local b.0 ≡ sub_ℕ (biased a + (bias + bias) - biased b) (bias + bias)
   subtracted = ap₂ ◌-ℤ◌ (to_z-of_z f) (to_z-of_z g) ∙ difference_is a b f g
+
+  -- of which neither is negative, nor the difference
+  pub subtracted_number : bias ≤ biased b → biased b ≤ biased a → biased (record { 0 = local (local a.0 -ℤ local b.0) }) ≡ biased a + bias - biased b
+  subtracted_number h k =
+      let u = biased_below a f in
+      let v = biased_below b g in
+      omega (arith, gives_number _ subtracted (omega arith, omega arith))
+
+pub from_natural : (n : ℕ) (z : ℤ) → n < 2 ^ 64 → z ≡ pos n → biased (record { 0 = local z }) ≡ bias + n
+from_natural n z h e =
+    let k : local z ≡ pos n = rw e (to_z_pos w128 (omega arith)) in
+    rw k (biased_from n)
 
 pub negated : (a : Amount) (f : SFits w128 a.0) → neg_ℤ (local a.0) ≡ sub_ℕ (bias + (bias + bias) - biased a) (bias + bias)
 negated a f = ap neg_ℤ (to_z-of_z f) ∙ negative_is a f

@@ -54,7 +54,7 @@ fn address_at(s: &[u8], at: usize) -> bool
     requires { at + 1 ≤ length s.now }
     ensures { result ≡ ltb (le 1 s.now at) 64 }
 {
-    fields::get8(s, at) < 64
+    Address::new(fields::get8(s, at)).is_some()
 }
 
 fn zero8_at(s: &[u8], at: usize) -> bool

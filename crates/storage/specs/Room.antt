@@ -83,20 +83,3 @@ not_there l (suc n) k e i h q =
     miss : (a b : Bool) → a or b ≡ false → b ≡ false
     miss a true e = sym (or_r a true refl) ∙ e
     miss a false e = refl
-
-pub there : (l : List ℕ) (n k i : ℕ) → i < n → tracked_key l i ≡ k → tracked l n k ≡ true
-unfolding tracked
-there l zero k i h q = absurd (omega arith)
-there l (suc n) k i h q =
-    three_ways i n (eqb (tracked_key l n) k or tracked l n k ≡ true)
-    (λ r. or_r _ _ (there l n k i r q)) (λ r. absurd (omega arith))
-    (λ r. or_l _ _ (eq-eqb (tracked_key l n) k (sym (ap (tracked_key l) r) ∙ q)))
-
--- a search that goes up
-pub none_yet : (l : List ℕ) (k : ℕ) → false ≡ tracked l 0 k
-unfolding tracked
-none_yet l k = refl
-
-pub none_more : (l : List ℕ) (k i : ℕ) → false ≡ tracked l i k → (tracked_key l i ≡ k → ⊥) → false ≡ tracked l (i + 1) k
-unfolding tracked ◌or◌
-none_more l k i e h = rw (add-one, ne_eqb (tracked_key l i) k h) e
