@@ -175,8 +175,8 @@ module _ (l r e : List ℕ) where
         image = ap (λ (x : Step). x.state.image) (closed_is m f) ∙ sym (ap (λ (x : Step). x.state.image) (closed_is n g));
       }
 
-pub all-answered : Demand1
-all-answered =
+pub all_answered : Demand1
+all_answered =
     record {
       numbered = λ s c. (answers s c).numbered;
       refused = λ s c. (answers s c).refused;

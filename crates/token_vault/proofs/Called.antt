@@ -8,15 +8,16 @@ use native.Mathlib.Decide.{ℕ_discrete}
 use native.Mathlib.Omega.{arith}
 use lib.ListN.{length}
 use Rattle.journal.specs.Journal.{contents_of, good_journal, room, journal_after}
+use Rattle.journal.specs.Parts.{GoodOver}
 use Rattle.journal.specs.Calls.{Call, operation, begin, commit, rollback, undo, Step, Done}
 use Rattle.journal.proofs.Dispatch.{operated-refused, operated-view, operated-closed, operated_full, operated-entered, step_30, step_31, step_operation, step_begin, step_commit, step_rollback, step_undo}
+use Rattle.std.specs.Prelude.{Result}
 use Rattle.std.proofs.Common.{Ok, Err}
 use Rattle.refusal.specs.declared.Refusal.{Refusal}
 use Rattle.refusal.specs.Numbers.{number_of, code}
-use Rattle.refusal.specs.Numbers.{number_of}
-use Rattle.refusal.specs.Laws.{some_number}
+use Rattle.refusal.specs.Laws.{some_number, code_passed}
 use Rattle.journal.specs.Step.{vault, reply, blank, lent, operated, begun, committed, rolled_back, undone, step}
-use Rattle.outcome.specs.Outcome.{Answer, value_of, count_of, Does, Views}
+use Rattle.outcome.specs.Outcome.{Answer, value_of, count_of, Refuses, Does, Views}
 use Rattle.events.specs.Event.{event_buffer, buffer_number}
 use Rattle.events.specs.Buffer.{buffer_none}
 use Rattle.record.specs.Form.{is_view, form_number, reads_token, reads_caller}
@@ -27,6 +28,7 @@ use Rattle.record.specs.declared.operation.Operation.TheVariants.{View}
 use Rattle.record.specs.Record.{operation_of}
 use Rattle.image.specs.Layout.{cells}
 use Rattle.image.specs.Good.{good_image}
+use Rattle.storage.specs.Facts.{facts}
 use Rattle.amount.specs.Biased.{bias}
 use Rattle.fields.specs.Rules.{pick, link_at_lem}
 use Rattle.operations.specs.Operations.{outcome_of, view_outcome}
@@ -34,7 +36,7 @@ use Rattle.operations.specs.Laws.{viewed}
 use Rattle.operations.proofs.Silent.{view_silent}
 use Rattle.std.specs.Result.{is_err}
 use Rattle.token_vault.proofs.Accepted.{form_zero}
-use Rattle.token_vault.specs.Public.{CallIs, CallAlone, JournalIs, Replies, Answers, Tries, state_number, kept_number, kept_image, kept_journal, Keeps}
+use Rattle.token_vault.specs.Public.{JournalIs, Replies, Answers, Tries, state_number, kept_number, kept_image, kept_journal, Keeps}
 use Rattle.token_vault.specs.Vault.{call_number, by_number, by_form, op, view, vault_step}
 
 -- ---- bytes
@@ -206,9 +208,6 @@ module _ (l j : List ℕ) {b : Bool} {k : ℕ} (g : b ≡ good_image l) (p : k �
       go true false e f = let w : k ≡ 31 = p ∙ rw (e, f) in rw w (step_31 cells good_image op view (vault l j) c (sym g ∙ e) f)
       go false y e f = let w : k ≡ 30 = p ∙ rw e in rw w (step_30 cells good_image op view (vault l j) c (sym g ∙ e))
 
-  pub journal_refused : (c : Call) → (k ≡ 0 → ⊥) → JournalIs (vault_step (vault l j) c) k l j
-  journal_refused c n = rw (bad_state c n) (record { numbered = refl; changed = refl; entered = refl })
-
 module _ (l j r e : List ℕ) where
   module _ (g : good_image l ≡ true) (h : good_journal cells j ≡ true) where
     pub steps : vault_step (vault l j) (operation r e) ≡ operated cells (view r) (vault l j) (op l r e)
@@ -233,22 +232,30 @@ module _ (l j r e : List ℕ) where
     operated_is v = steps ∙ ap (λ (b : Bool). operated cells b (vault l j) (op l r e)) v
 
 -- ---- begin, commit, rollback and undo
+-- at a state that is not good: what `?` passes on
+pub state_refused : {T : Type 0} (l j : List ℕ) (c : Call) {b : Bool} (e : Refusal) (r : Result T Refusal) → b ≡ good_image l → number_of e ≡ state_number b j → Refuses r e → JournalIs (vault_step (vault l j) c) (code r) l j
+state_refused l j c e r g p f = rw (code_passed e r f, bad_state l j g p c (some_number e)) (record { numbered = refl; changed = refl; entered = refl })
+
 -- from the equation that the journal's functions give
-pub journal_step : {s t : Step} {n : ℕ} {x y : List ℕ} → s ≡ t → reply n [] (vault x y) ≡ t → JournalIs s n x y
+journal_step : {s t : Step} {n : ℕ} {x y : List ℕ} → s ≡ t → reply n [] (vault x y) ≡ t → JournalIs s n x y
 journal_step p q =
     let e = q ∙ sym p in
     record { numbered = ap (λ (u : Step). u.answer.number) e; changed = ap (λ (u : Step). u.state.image) e; entered = ap (λ (u : Step). u.state.journal) e }
+
+module _ (l j : List ℕ) {b : Bool} (g : b ≡ good_image l) (z : 0 ≡ state_number b j) where
+  pub good_over : GoodOver cells l j
+  good_over = let (h, i) = good_state l j g z refl in record { long = (facts l h).long; good = i }
 
 module _ (l j : List ℕ) (g : good_image l ≡ true) (h : good_journal cells j ≡ true) where
   pub vault_begin : vault_step (vault l j) begin ≡ begun (vault l j)
   unfolding vault_step
   vault_begin = step_begin cells good_image op view (vault l j) g h
 
-  pub vault_commit : vault_step (vault l j) commit ≡ committed (vault l j)
+  vault_commit : vault_step (vault l j) commit ≡ committed (vault l j)
   unfolding vault_step
   vault_commit = step_commit cells good_image op view (vault l j) g h
 
-  pub vault_rollback : vault_step (vault l j) rollback ≡ rolled_back (vault l j)
+  vault_rollback : vault_step (vault l j) rollback ≡ rolled_back (vault l j)
   unfolding vault_step
   vault_rollback = step_rollback cells good_image op view (vault l j) g h
 
@@ -256,5 +263,15 @@ module _ (l j : List ℕ) (g : good_image l ≡ true) (h : good_journal cells j 
   unfolding vault_step
   vault_undo = step_undo cells good_image op view (vault l j) g h
 
-pub alone : {s : Step} {n k : ℕ} {v e x y : List ℕ} → CallIs s n v k e x y → CallAlone s n v k e x
-alone d = record { numbered = d.numbered; valued = d.valued; counted = d.counted; written = d.written; changed = d.changed }
+module _ (l j : List ℕ) {b : Bool} (g : b ≡ good_image l) (z : 0 ≡ state_number b j) {n : ℕ} {x y : List ℕ} where
+  pub begun_step : reply n [] (vault x y) ≡ begun (vault l j) → JournalIs (vault_step (vault l j) begin) n x y
+  begun_step = let (h, i) = good_state l j g z refl in journal_step (vault_begin l j h i)
+
+  pub committed_step : reply n [] (vault x y) ≡ committed (vault l j) → JournalIs (vault_step (vault l j) commit) n x y
+  committed_step = let (h, i) = good_state l j g z refl in journal_step (vault_commit l j h i)
+
+  pub rolled_back_step : reply n [] (vault x y) ≡ rolled_back (vault l j) → JournalIs (vault_step (vault l j) rollback) n x y
+  rolled_back_step = let (h, i) = good_state l j g z refl in journal_step (vault_rollback l j h i)
+
+  pub undone_step : reply n [] (vault x y) ≡ undone (vault l j) → JournalIs (vault_step (vault l j) undo) n x y
+  undone_step = let (h, i) = good_state l j g z refl in journal_step (vault_undo l j h i)

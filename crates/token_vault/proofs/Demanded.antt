@@ -139,5 +139,5 @@ call_enters : (s : State) (r e : List ℕ) → view r ≡ false → (contents_of
 unfolding vault_step
 call_enters s r e v o z = enters cells good_image op view op_laws s r e (accepted_good cells good_image op view op_laws s (operation r e) z) z v o
 
-pub entered-cells : EntersCells
-entered-cells = record { every = call_enters }
+pub entered_cells : EntersCells
+entered_cells = record { every = call_enters }

@@ -21,7 +21,7 @@ use Rattle.token_vault.specs.Demand.{leaves_buffer}
 use Rattle.token_vault.specs.Preview.{preview_answer, is_previewed, RefusedPreview, call_at, CallFollows, Request, call, preview, run_requests, calls_of, log_calls, Previews}
 use Rattle.token_vault.specs.Public.{closed_journal}
 use Rattle.token_vault.specs.Vault.{call_number, op, view, vault_step}
-use Rattle.token_vault.proofs.Answered.{call_form, form_buffer, or_right, at_closed, closed-outcome, closed_is, all-answered}
+use Rattle.token_vault.proofs.Answered.{call_form, form_buffer, or_right, at_closed, closed-outcome, closed_is, all_answered}
 use Rattle.token_vault.proofs.Called.{malformed, own_number, steps}
 use Rattle.operations.specs.Operations.{is_own}
 use Rattle.operations.proofs.Numbers.{outcome_own}
@@ -80,7 +80,7 @@ not_30 n p = go (eqb n 30) refl
 refused : (l r e : List ℕ) → ((preview_answer l r e).number ≡ 0 → ⊥) → RefusedPreview r e (preview_answer l r e)
 unfolding preview_answer
 refused l r e n =
-    let x = all-answered.refused (vault l closed_journal) (operation r e) n in
+    let x = all_answered.refused (vault l closed_journal) (operation r e) n in
     record { no_value = x.no_value; no_event = x.no_event; buffer = x.buffer }
 
 -- ---- the call that follows

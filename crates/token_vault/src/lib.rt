@@ -1,12 +1,10 @@
 // The token vault: its public calls. Any bytes of any length get an answer.
-#![tactic(auto, unfolding(fields::specs::Rules::chain, fields::specs::Rules::or_else, crate::specs::Public::state_number, crate::specs::Public::kept_number, crate::specs::Public::kept_image, crate::specs::Public::kept_journal, crate::specs::Vault::call_number), using(crate::proofs::Accepted::form_zero))]
+#![tactic(auto, unfolding(fields::specs::Rules::chain, fields::specs::Rules::or_else, crate::specs::Public::state_number, crate::specs::Public::kept_number, crate::specs::Public::kept_image, crate::specs::Public::kept_journal, crate::specs::Vault::call_number), using(crate::proofs::Accepted::form_zero, crate::proofs::Called::good_over))]
 
 ghost use Rattle.std.specs.Prelude.{◌≡◌, ◌<◌, true, false, [], IfOk};
-ghost use Rattle.amount.specs.Biased.{biased};
 ghost use Rattle.events.specs.Event.{event_buffer};
-ghost use Rattle.events.specs.Splice.{amount_bytes};
 ghost use Rattle.image.specs.Layout.{cells};
-ghost use Rattle.outcome.specs.Outcome.{Views, value_of, count_of};
+ghost use Rattle.outcome.specs.Outcome.{Views};
 ghost use Rattle.storage.specs.Facts.{Good};
 ghost use Rattle.record.specs.Form.{reads_caller, reads_token};
 ghost use Rattle.record.specs.Views.{view_number};
@@ -18,34 +16,17 @@ ghost use Rattle.refusal.specs.Numbers.{code};
 ghost use Rattle.token_vault.specs.Vault.{call_number, op, vault_step};
 ghost use Rattle.token_vault.specs.Demand.{Demand1, Demand3};
 ghost use Rattle.token_vault.specs.Cells.{EntersCells};
-ghost use Rattle.token_vault.specs.Preview.{preview_answer, PreviewIs, Previews};
-ghost use Rattle.token_vault.specs.Public.{CallIs, CallAlone, closed_journal, JournalIs, Replies, Answers, Tries, state_number, kept_number, kept_journal, Keeps};
+ghost use Rattle.token_vault.specs.Preview.{preview_answer, Previews};
+ghost use Rattle.token_vault.specs.Public.{closed_journal, JournalIs, Replies, Answers, Tries, state_number, kept_number, kept_journal, Keeps};
 
 use events::Buffer;
 use image::Image;
-use outcome::{Answer, Done};
+use outcome::Answer;
 use record::{Head, Operation, Parsed, View};
 use refusal::Refusal;
 
 // The cells of sixteen bytes of an image.
 const CELLS: usize = 2302;
-
-fn write_done(done: Done, value: &mut [u8; 16], event_count: &mut u32)
-    ensures { (value.new ≡ amount_bytes (biased done.value)) × (event_count.new ≡ done.events) }
-{
-    let mut bytes = [0u8; 16];
-    amount::write_amount(&mut bytes, 0, done.value);
-    *value = bytes;
-    *event_count = u32::from(done.events);
-}
-
-// An answer as the caller gets it: value and event count are written out, and the number is returned.
-fn write_answer(answer: Answer, value: &mut [u8; 16], event_count: &mut u32) -> u32
-    ensures { (result ≡ code answer) × (value.new ≡ amount_bytes (value_of answer)) × (event_count.new ≡ count_of answer) }
-{
-    write_done(answer.unwrap_or(Done::new(0)), value, event_count);
-    refusal::number(&answer)
-}
 
 // A view of a good image, with the token and the account of a record: the event buffer is blank.
 fn run_view(image: &Image, view: View, head: Head, events: &mut Buffer) -> Answer
@@ -127,12 +108,13 @@ fn call_check<'a>(rec: &'a [u8], events: &[u8]) -> Result<Parsed<'a>, Refusal>
     Ok(parsed)
 }
 
-fn answer_call(image: &mut [u8], journal: &mut [u8], rec: &[u8], events: &mut [u8]) -> Answer
-    ensures { Replies (vault_step (vault image.old journal.old) (Call.operation rec.now events.old)) result events.new image.new journal.new }
+// A call: what was done, or the refusal.
+pub fn call(image: &mut [u8], journal: &mut [u8], record: &[u8], events: &mut [u8]) -> Answer
+    ensures { Replies (vault_step (vault image.old journal.old) (Call.operation «record».now events.old)) result events.new image.new journal.new }
 {
     let is_image_good = image::good_image(image);
     state_check(is_image_good, journal)?;
-    let parsed = call_check(rec, events)?;
+    let parsed = call_check(record, events)?;
     let image: &mut Image = image.as_mut_array().unwrap();
     let events: &mut Buffer = events.as_mut_array().unwrap();
     if let Operation::View(view) = parsed.head.operation {
@@ -141,33 +123,14 @@ fn answer_call(image: &mut [u8], journal: &mut [u8], rec: &[u8], events: &mut [u
     run_operation(image, journal, parsed, events)
 }
 
-// A call: its number; value and event count are written for every answer.
-pub fn call(
-    image: &mut [u8],
-    journal: &mut [u8],
-    record: &[u8],
-    events: &mut [u8],
-    value: &mut [u8; 16],
-    event_count: &mut u32,
-) -> u32
-    ensures { CallIs (vault_step (vault image.old journal.old) (Call.operation «record».now events.old)) result value.new event_count.new events.new image.new journal.new }
-{
-    let a = answer_call(image, journal, record, events);
-    write_answer(a, value, event_count)
-}
-
 // A call without a journal: as with a closed one of its own.
-pub fn call_without_journal(
-    image: &mut [u8],
-    record: &[u8],
-    events: &mut [u8],
-    value: &mut [u8; 16],
-    event_count: &mut u32,
-) -> u32
-    ensures { CallAlone (vault_step (vault image.old closed_journal) (Call.operation «record».now events.old)) result value.new event_count.new events.new image.new }
+#[tactic(auto, unfolding(crate::specs::Public::closed_journal))]
+pub fn call_without_journal(image: &mut [u8], record: &[u8], events: &mut [u8]) -> Answer
+    ensures answered { Answers (vault_step (vault image.old closed_journal) (Call.operation «record».now events.old)).answer result events.new }
+    ensures changed { image.new ≡ (vault_step (vault image.old closed_journal) (Call.operation «record».now events.old)).state.image }
 {
     let mut journal = [0u8; 48];
-    call(image, &mut journal, record, events, value, event_count)
+    call(image, &mut journal, record, events)
 }
 
 // A view reads the image, any other operation runs on a copy of it.
@@ -185,32 +148,19 @@ fn preview_operation(image: &Image, parsed: Parsed<'_>, events: &mut Buffer) -> 
     }
 }
 
-fn answer_preview(image: &[u8], rec: &[u8], events: &mut [u8]) -> Answer
-    ensures { Answers (preview_answer image.now rec.now events.old) result events.new }
+// A preview: what a call without a journal would answer. The image is lent to read, and there is no journal.
+pub fn preview(image: &[u8], record: &[u8], events: &mut [u8]) -> Answer
+    ensures { Answers (preview_answer image.now «record».now events.old) result events.new }
 {
     refusal::refuse_if(!image::good_image(image), Refusal::InvalidImage)?;
-    let parsed = call_check(rec, events)?;
+    let parsed = call_check(record, events)?;
     let image: &Image = image.as_array().unwrap();
     let events: &mut Buffer = events.as_mut_array().unwrap();
     preview_operation(image, parsed, events)
 }
 
-// A preview: what a call without a journal would answer. The image is lent to read, and there is no journal.
-pub fn preview(
-    image: &[u8],
-    record: &[u8],
-    events: &mut [u8],
-    value: &mut [u8; 16],
-    event_count: &mut u32,
-) -> u32
-    ensures { PreviewIs (preview_answer image.now «record».now events.old) result value.new event_count.new events.new }
-{
-    let a = answer_preview(image, record, events);
-    write_answer(a, value, event_count)
-}
-
 // The four calls of a transaction, for one export of C each: each is a step of its own.
-fn try_begin(image: &mut [u8], journal: &mut [u8]) -> Result<(), Refusal>
+pub fn begin(image: &mut [u8], journal: &mut [u8]) -> Result<(), Refusal>
     ensures { JournalIs (vault_step (vault image.old journal.old) Call.begin) (code result) image.new journal.new }
 {
     let is_image_good = image::good_image(image);
@@ -218,13 +168,7 @@ fn try_begin(image: &mut [u8], journal: &mut [u8]) -> Result<(), Refusal>
     journal::begin(journal)
 }
 
-pub fn begin(image: &mut [u8], journal: &mut [u8]) -> u32
-    ensures { JournalIs (vault_step (vault image.old journal.old) Call.begin) result image.new journal.new }
-{
-    refusal::number(&try_begin(image, journal))
-}
-
-fn try_commit(image: &mut [u8], journal: &mut [u8]) -> Result<(), Refusal>
+pub fn commit(image: &mut [u8], journal: &mut [u8]) -> Result<(), Refusal>
     ensures { JournalIs (vault_step (vault image.old journal.old) Call.commit) (code result) image.new journal.new }
 {
     let is_image_good = image::good_image(image);
@@ -232,13 +176,7 @@ fn try_commit(image: &mut [u8], journal: &mut [u8]) -> Result<(), Refusal>
     journal::commit(journal)
 }
 
-pub fn commit(image: &mut [u8], journal: &mut [u8]) -> u32
-    ensures { JournalIs (vault_step (vault image.old journal.old) Call.commit) result image.new journal.new }
-{
-    refusal::number(&try_commit(image, journal))
-}
-
-fn try_rollback(image: &mut [u8], journal: &mut [u8]) -> Result<(), Refusal>
+pub fn rollback(image: &mut [u8], journal: &mut [u8]) -> Result<(), Refusal>
     ensures { JournalIs (vault_step (vault image.old journal.old) Call.rollback) (code result) image.new journal.new }
 {
     let is_image_good = image::good_image(image);
@@ -246,13 +184,7 @@ fn try_rollback(image: &mut [u8], journal: &mut [u8]) -> Result<(), Refusal>
     journal::rollback(image, journal, CELLS)
 }
 
-pub fn rollback(image: &mut [u8], journal: &mut [u8]) -> u32
-    ensures { JournalIs (vault_step (vault image.old journal.old) Call.rollback) result image.new journal.new }
-{
-    refusal::number(&try_rollback(image, journal))
-}
-
-fn try_undo(image: &mut [u8], journal: &mut [u8]) -> Result<(), Refusal>
+pub fn undo(image: &mut [u8], journal: &mut [u8]) -> Result<(), Refusal>
     ensures { JournalIs (vault_step (vault image.old journal.old) Call.undo) (code result) image.new journal.new }
 {
     let is_image_good = image::good_image(image);
@@ -260,13 +192,8 @@ fn try_undo(image: &mut [u8], journal: &mut [u8]) -> Result<(), Refusal>
     journal::undo(image, journal, CELLS)
 }
 
-pub fn undo(image: &mut [u8], journal: &mut [u8]) -> u32
-    ensures { JournalIs (vault_step (vault image.old journal.old) Call.undo) result image.new journal.new }
-{
-    refusal::number(&try_undo(image, journal))
-}
-
 // Demand 1 of this vault, over the step that the contracts above cite.
+#[tactic(auto, using(crate::proofs::Answered::all_answered))]
 pub fn demand_one() -> u32
     ensures { Demand1 }
 {
@@ -274,6 +201,7 @@ pub fn demand_one() -> u32
 }
 
 // Demand 3 of this vault, over the step that the contracts above cite.
+#[tactic(auto, using(crate::proofs::Demanded::demanded))]
 pub fn demand_three() -> u32
     ensures { Demand3 }
 {
@@ -281,6 +209,7 @@ pub fn demand_three() -> u32
 }
 
 // Which cells a call of this vault enters, over the step that the contracts above cite.
+#[tactic(auto, using(crate::proofs::Demanded::entered_cells))]
 pub fn entered_cells() -> u32
     ensures { EntersCells }
 {
@@ -288,6 +217,7 @@ pub fn entered_cells() -> u32
 }
 
 // What a preview says of the call that follows it, and that calls do not notice it, over the step that the contracts above cite.
+#[tactic(auto, using(crate::proofs::Previewed::all_previewed))]
 pub fn previews() -> u32
     ensures { Previews }
 {

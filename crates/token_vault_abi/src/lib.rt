@@ -2,6 +2,7 @@
 // that is written as a pointer.
 #![tactic(auto)]
 
+ghost use Rattle.std.specs.Prelude.{◌≡◌};
 ghost use Rattle.journal.specs.Calls.{Call};
 ghost use Rattle.journal.specs.Step.{vault};
 ghost use Rattle.token_vault.specs.Vault.{vault_step};
@@ -10,6 +11,22 @@ ghost use Rattle.token_vault.specs.Preview.{preview_answer, PreviewIs};
 ghost use Rattle.trial_records.specs.Trial.{trial, TrialIs};
 ghost use Rattle.toll_bounds.specs.Bounds.{toll_bounds, BoundsAre};
 ghost use Rattle.amount.specs.Biased.{amount_at};
+ghost use Rattle.events.specs.Splice.{amount_bytes};
+ghost use Rattle.outcome.specs.Outcome.{value_of, count_of};
+ghost use Rattle.refusal.specs.Numbers.{code};
+
+use outcome::{Answer, Done};
+
+// An answer as C gets it: value and event count are written out, and the number is returned.
+#[tactic(auto, using(events::specs::Splice::put_amount_whole))]
+fn write_answer(answer: Answer, value: &mut [u8; 16], event_count: &mut u32) -> u32
+    ensures { (result ≡ code answer) × (value.new ≡ amount_bytes (value_of answer)) × (event_count.new ≡ count_of answer) }
+{
+    let done = answer.unwrap_or(Done::new(0));
+    amount::write_amount(value, 0, done.value);
+    *event_count = u32::from(done.events);
+    refusal::number(&answer)
+}
 
 // A call: its number; value and event count are written for every answer.
 #[unsafe(no_mangle)]
@@ -23,7 +40,8 @@ pub extern "C" fn token_vault_call(
 ) -> u32
     ensures { CallIs (vault_step (vault image.old journal.old) (Call.operation «record».now events.old)) result value.new event_count.new events.new image.new journal.new }
 {
-    token_vault::call(image, journal, record, events, value, event_count)
+    let answer = token_vault::call(image, journal, record, events);
+    write_answer(answer, value, event_count)
 }
 
 // A call without a journal: as with a closed one of its own.
@@ -37,7 +55,8 @@ pub extern "C" fn token_vault_call_without_journal(
 ) -> u32
     ensures { CallAlone (vault_step (vault image.old closed_journal) (Call.operation «record».now events.old)) result value.new event_count.new events.new image.new }
 {
-    token_vault::call_without_journal(image, record, events, value, event_count)
+    let answer = token_vault::call_without_journal(image, record, events);
+    write_answer(answer, value, event_count)
 }
 
 // A preview: what a call without a journal would answer. The image is lent to read, and there is no journal.
@@ -51,7 +70,8 @@ pub extern "C" fn token_vault_preview(
 ) -> u32
     ensures { PreviewIs (preview_answer image.now «record».now events.old) result value.new event_count.new events.new }
 {
-    token_vault::preview(image, record, events, value, event_count)
+    let answer = token_vault::preview(image, record, events);
+    write_answer(answer, value, event_count)
 }
 
 // Opens a transaction.
@@ -59,7 +79,7 @@ pub extern "C" fn token_vault_preview(
 pub extern "C" fn token_vault_begin(image: &mut [u8], journal: &mut [u8]) -> u32
     ensures { JournalIs (vault_step (vault image.old journal.old) Call.begin) result image.new journal.new }
 {
-    token_vault::begin(image, journal)
+    refusal::number(&token_vault::begin(image, journal))
 }
 
 // Keeps what the transaction did, and closes it.
@@ -67,7 +87,7 @@ pub extern "C" fn token_vault_begin(image: &mut [u8], journal: &mut [u8]) -> u32
 pub extern "C" fn token_vault_commit(image: &mut [u8], journal: &mut [u8]) -> u32
     ensures { JournalIs (vault_step (vault image.old journal.old) Call.commit) result image.new journal.new }
 {
-    token_vault::commit(image, journal)
+    refusal::number(&token_vault::commit(image, journal))
 }
 
 // Undoes all that the transaction did, and closes it.
@@ -75,7 +95,7 @@ pub extern "C" fn token_vault_commit(image: &mut [u8], journal: &mut [u8]) -> u3
 pub extern "C" fn token_vault_rollback(image: &mut [u8], journal: &mut [u8]) -> u32
     ensures { JournalIs (vault_step (vault image.old journal.old) Call.rollback) result image.new journal.new }
 {
-    token_vault::rollback(image, journal)
+    refusal::number(&token_vault::rollback(image, journal))
 }
 
 // Undoes the last call of the transaction.
@@ -83,7 +103,7 @@ pub extern "C" fn token_vault_rollback(image: &mut [u8], journal: &mut [u8]) -> 
 pub extern "C" fn token_vault_undo(image: &mut [u8], journal: &mut [u8]) -> u32
     ensures { JournalIs (vault_step (vault image.old journal.old) Call.undo) result image.new journal.new }
 {
-    token_vault::undo(image, journal)
+    refusal::number(&token_vault::undo(image, journal))
 }
 
 // Fills the buffer with trial records, and says which number of the generator the last draw reached.
@@ -96,14 +116,9 @@ pub extern "C" fn token_vault_trial_records(
 ) -> u32
     ensures { TrialIs (trial start first records.old) result records.new reached.new }
 {
-    *reached = start;
-    match trial_records::trial_records(start, first, records) {
-        Ok(last) => {
-            *reached = last;
-            0
-        }
-        Err(refusal) => u32::from(u8::from(refusal)),
-    }
+    let last = trial_records::trial_records(start, first, records);
+    *reached = last.unwrap_or(start);
+    refusal::number(&last)
 }
 
 // The least and the greatest holding of the vault after amounts are moved in, where the token's toll is known within bounds.

@@ -1,4 +1,4 @@
 -- Laws that the proofs cite.
-pub mod Printed
+pub mod Lines
 pub mod Short
 pub mod Taken

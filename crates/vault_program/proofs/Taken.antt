@@ -6,7 +6,9 @@ use mathlib.Core.Logic.{◌⊎◌, inl, inr}
 use Prim.Native.Nat.{ℕ, zero, suc, ◌+◌, ◌-◌, ◌<◌, ◌≤◌}
 use native.Mathlib.Omega.{arith}
 use lib.ListN.{length, take, drop, replicate, take-append-drop, length-append, replicate-append-replicate}
-use lib.Seq.{length-take-le}
+use lib.Seq.{length-take-le, take-length, take-take, take_all}
+use Rattle.std.proofs.Common.{append-nil}
+use Rattle.std.proofs.lemmas.List.{drop_all}
 use Rattle.fields.specs.Rules.{pick}
 use Rattle.image.specs.Good.{good_image}
 use Rattle.vault_program.specs.Program.{answer_line, record_step, Prints}
@@ -15,7 +17,7 @@ use Rattle.vault_program.proofs.Short.{answered, short_record, short_image, answ
 
 -- ---- one record
 module _ (l b : List ℕ) where
-  pub text_some : (n : ℕ) → 0 < n → answer_line (record_step l (take n b)).answer ≡ read_text l b n
+  text_some : (n : ℕ) → 0 < n → answer_line (record_step l (take n b)).answer ≡ read_text l b n
   unfolding read_text
   text_some zero h = absurd (omega arith)
   text_some (suc n) h = refl
@@ -25,11 +27,15 @@ module _ (l b : List ℕ) where
   image_some zero h = absurd (omega arith)
   image_some (suc n) h = refl
 
+  pub text_none : length b ≡ 0 → read_text l b (length b) ≡ []
+  unfolding read_text
+  text_none e = rw e refl
+
   pub read_none : (n : ℕ) {text : List ℕ} → n ≡ 0 → text ≡ [] → AnswersRead l b n text l
   unfolding read_text read_image
   read_none n e t = record { within = omega arith; printed = t ∙ rw e refl; carried = rw e refl; short_line = λ p q. absurd (omega arith); short_image = λ p q. absurd (omega arith) }
 
-  pub read_some : (n : ℕ) {text image : List ℕ} → 0 < n → n ≤ length b → Prints (record_step l (take n b)) text image → AnswersRead l b n text image
+  read_some : (n : ℕ) {text image : List ℕ} → 0 < n → n ≤ length b → Prints (record_step l (take n b)) text image → AnswersRead l b n text image
   read_some n h f p =
       record {
         within = f;
@@ -41,6 +47,42 @@ module _ (l b : List ℕ) where
     where
       short : n < 448 → record_step l (take n b) ≡ answered (pick (good_image l) 32 30) l
       short q = short_record l (take n b) (λ z. omega (arith, length-take-le n b f))
+
+  -- of all bytes of b
+  pub text_all : 0 < length b → answer_line (record_step l b).answer ≡ read_text l b (length b)
+  text_all h = ap (λ (x : List ℕ). answer_line (record_step l x).answer) (sym (take-length b)) ∙ text_some (length b) h
+
+  pub read_all : {text image : List ℕ} → 0 < length b → Prints (record_step l b) text image → AnswersRead l b (length b) text image
+  read_all h p = read_some (length b) h (omega arith) (rw (take-length b) p)
+
+-- the same of the whole buffer, of which n bytes were read
+module _ (l b : List ℕ) (n : ℕ) (h : n ≤ length b) where
+  pub text_read : read_text l (take n b) (length (take n b)) ≡ read_text l b n
+  unfolding read_text
+  text_read = rw (length-take-le n b h) (go n)
+    where
+      go : (k : ℕ) → read_text l (take k b) k ≡ read_text l b k
+      go zero = refl
+      go (suc k) = rw (take-take (suc k) (suc k) b (omega arith)) refl
+
+  image_read : read_image l (take n b) (length (take n b)) ≡ read_image l b n
+  unfolding read_image
+  image_read = rw (length-take-le n b h) (go n)
+    where
+      go : (k : ℕ) → read_image l (take k b) k ≡ read_image l b k
+      go zero = refl
+      go (suc k) = ap (λ (x : List ℕ). (record_step l x).state.image) (take-take (suc k) (suc k) b (omega arith))
+
+  pub all_read : {text image : List ℕ} → AnswersRead l (take n b) (length (take n b)) text image → AnswersRead l b n text image
+  all_read a =
+      let e : length (take n b) ≡ n = length-take-le n b h in
+      record {
+        within = h;
+        printed = a.printed ∙ text_read;
+        carried = a.carried ∙ image_read;
+        short_line = λ p q. a.short_line (rw e p) (rw e q);
+        short_image = λ p q. a.short_image (rw e p) (rw e q);
+      }
 
 -- ---- the records, all whole so far
 pub record Whole (l image : List ℕ) (taken : ℕ) : Type 0 where
@@ -101,29 +143,33 @@ module _ {l m : List ℕ} {k : ℕ} (w : Whole l m k) where
       one_more e = record { records = one; counted = one_counted; lengths = one_lengths ∙ rw e (last_whole k); carried = one_carried }
 
 -- ---- the image
-module _ (l : List ℕ) (n : ℕ) where
-  pub taken_none : {text image : List ℕ} {last : ℕ} {is_written : Bool} → n < 36832 → n ≤ length l → Prints (record_step (take n l) []) text image → TakesImage l n text (image ++ drop n l) 0 last is_written
-  taken_none {image = image} h f p =
+module _ (l : List ℕ) where
+  pub taken_none : {image : List ℕ} {last : ℕ} {is_written : Bool} → length l < 36832 → image ≡ (record_step l []).state.image → TakesImage l (length l) (answer_line (record_step l []).answer) image 0 last is_written
+  taken_none h e =
+      let short : record_step l [] ≡ answered 30 l = short_image l [] (λ z. omega arith) in
       record {
-        short_text = λ _. p.printed;
-        short_line = λ _. p.printed ∙ rw short (answered-line 30 (take n l));
-        short_image = λ _. ap (λ (x : List ℕ). x ++ drop n l) (same image p) ∙ take-append-drop n l;
+        short_text = λ _. rw (take-length l) refl;
+        short_line = λ _. rw short (answered-line 30 l);
+        short_image = λ _. e ∙ rw short refl;
         short_taken = λ _. refl;
         whole = λ e. absurd (omega arith);
       }
-    where
-      short : record_step (take n l) [] ≡ answered 30 (take n l)
-      short = short_image (take n l) [] (λ z. omega (arith, length-take-le n l f))
 
-      same : (image : List ℕ) {text : List ℕ} → Prints (record_step (take n l) []) text image → image ≡ take n l
-      same image p = p.carried ∙ rw short refl
-
-  pub taken_whole : {text image : List ℕ} {taken last : ℕ} {is_written : Bool} → 36832 ≤ n → TakesRecords l image taken last is_written → TakesImage l n text image taken last is_written
-  taken_whole h w =
-      record {
-        short_text = λ q. absurd (omega arith);
-        short_line = λ q. absurd (omega arith);
-        short_image = λ q. absurd (omega arith);
-        short_taken = λ q. absurd (omega arith);
-        whole = λ _. w;
-      }
+-- the same of the whole buffer, of which n bytes were read
+pub image_taken : (b : List ℕ) (n : ℕ) {text image : List ℕ} {taken last : ℕ} {is_written : Bool} → length b ≡ 36832 → n ≤ 36832
+    → TakesImage (take n b) (length (take n b)) text image taken last is_written → TakesImage b n text (image ++ drop n b) taken last is_written
+image_taken b n {image = image} {taken} {last} {is_written} h f t =
+    let e : length (take n b) ≡ n = length-take-le n b (omega arith) in
+    record {
+      short_text = λ q. t.short_text (rw e q) ∙ rw (take-length (take n b)) refl;
+      short_line = λ q. t.short_line (rw e q);
+      short_image = λ q. ap (λ (x : List ℕ). x ++ drop n b) (t.short_image (rw e q)) ∙ take-append-drop n b;
+      short_taken = λ q. t.short_taken (rw e q);
+      whole = λ q. all q (t.whole (e ∙ q));
+    }
+  where
+    all : n ≡ 36832 → TakesRecords (take n b) image taken last is_written → TakesRecords b (image ++ drop n b) taken last is_written
+    all q w =
+        let i : take n b ≡ b = take_all n b (omega arith) in
+        let d : drop n b ≡ [] = drop_all n b (omega arith) in
+        rw (d, append-nil image) (rw i at w)

@@ -1,10 +1,12 @@
 -- What the program prints for a record, and the image that it carries on to the next (docs/FORMATS.md, "The program").
 use Rattle.std.specs.Prelude.{◌≡◌, List, [], ℕ, ◌+◌, ◌-◌, ◌<◌, ℤ, pos}
-use Rattle.std.proofs.Common.{sym, ap, ◌∙◌, append-nil, arith}
+use Rattle.std.proofs.Common.{FitsSigned, sym, ap, ◌∙◌, append-nil, arith}
 use Rattle.std.proofs.Math.IntN.{sub_ℕ}
-use Rattle.amount.specs.Biased.{bias, amount_at}
-use Rattle.amount.specs.Laws.{subℕ_ge}
-use Rattle.amount.specs.Value.{value}
+use Rattle.std.specs.Int.{w128}
+use Rattle.amount.specs.Biased.{bias, biased, amount_at}
+use Rattle.amount.specs.Laws.{subℕ_ge, biased_below}
+use Rattle.amount.specs.Value.{value, value-biased}
+use Rattle.amount.specs.declared.Amount.{Amount}
 use Rattle.answer_line.specs.Decimal.{line}
 use Rattle.answer_line.specs.declared.Answer.{Answer as Printed}
 use Rattle.events.specs.Splice.{amount_bytes, amount_at-amount_bytes}
@@ -39,10 +41,17 @@ pub record Prints (s : Step) (text image : List ℕ) : Type 0 where
   pub printed : text ≡ answer_line s.answer
   pub carried : image ≡ s.state.image
 
+-- what is read from the bytes of an amount
+signed-bytes : (n : ℕ) → n < bias + bias → signed_at (amount_bytes n) ≡ sub_ℕ n bias
+unfolding signed_at
+signed-bytes n h = ap (λ (m : ℕ). sub_ℕ m bias) (ap (λ (l : List ℕ). amount_at l 0) (sym (append-nil (amount_bytes n))) ∙ amount_at-amount_bytes n [] h)
+
+pub signed_bytes : (a : Amount) → FitsSigned w128 a.0 → value a ≡ signed_at (amount_bytes (biased a))
+signed_bytes a f = value-biased a f ∙ sym (signed-bytes (biased a) (biased_below a f))
+
 -- a value below 2 ^ 127 is printed as it is
 pub signed_at-value : (v : ℕ) → v < bias → signed_at (amount_bytes (bias + v)) ≡ pos v
-unfolding signed_at
-signed_at-value v h = ap (λ (n : ℕ). sub_ℕ n bias) (ap (λ (l : List ℕ). amount_at l 0) (sym (append-nil (amount_bytes (bias + v)))) ∙ amount_at-amount_bytes (bias + v) [] (omega arith)) ∙ over v bias
+signed_at-value v h = signed-bytes (bias + v) (omega arith) ∙ over v bias
   where
     over : (x b : ℕ) → sub_ℕ (b + x) b ≡ pos x
     over x b = let e : b + x - b ≡ x = omega arith in subℕ_ge (b + x) b (omega arith) ∙ ap pos e

@@ -4,18 +4,28 @@
 ghost use Rattle.std.specs.Prelude.{◌≡◌, ◌<◌, ◌≤◌, length, take, [], OnOk, is_ok};
 ghost use Rattle.std.specs.Io.KnownBytes.{Consumes, Appends};
 ghost use Rattle.amount.specs.Value.{value};
+ghost use Rattle.events.specs.Splice.{amount_bytes};
+ghost use Rattle.outcome.specs.Outcome.{value_of, count_of};
+ghost use Rattle.refusal.specs.Numbers.{code};
 ghost use Rattle.vault_program.specs.Program.{signed_at, answer_line, text_of, record_step, IsLine, Prints};
 ghost use Rattle.vault_program.specs.Records.{read_text, AnswersRead, TakesRecords, TakesImage, Runs};
 
-use amount::Amount;
 use answer_line::Answer;
+use outcome::Done;
 use std::io;
 use std::io::{Read, Write};
 
-pub fn read_value(bytes: &[u8; 16]) -> Amount
-    ensures { value result ≡ signed_at bytes.now }
+// What is printed of an answer.
+#[tactic(auto, using(crate::specs::Program::signed_bytes))]
+pub fn printed(answer: outcome::Answer) -> Answer
+    ensures { (result.number ≡ code answer) × (value result.value ≡ signed_at (amount_bytes (value_of answer))) × (result.events ≡ count_of answer) }
 {
-    amount::read_amount(bytes, 0)
+    let done = answer.unwrap_or(Done::new(0));
+    Answer {
+        number: refusal::number(&answer),
+        value: done.value,
+        events: u32::from(done.events),
+    }
 }
 
 // What is printed for a record. Any record, also a short one, gets its line.
@@ -23,20 +33,7 @@ pub fn answer_record(image: &mut [u8], record: &[u8]) -> Answer
     ensures { Prints (record_step image.old «record».now) (text_of result) image.new }
 {
     let mut events = [0u8; 896];
-    let mut value = [0u8; 16];
-    let mut count = 0u32;
-    let number = token_vault::call_without_journal(
-        image,
-        record,
-        &mut events,
-        &mut value,
-        &mut count,
-    );
-    Answer {
-        number,
-        value: read_value(&value),
-        events: count,
-    }
+    printed(token_vault::call_without_journal(image, record, &mut events))
 }
 
 // Every byte of the output goes through here, and all of them are lines of answers.
@@ -55,21 +52,15 @@ fn print_answer<O: Write>(output: &mut O, image: &mut [u8], record: &[u8]) -> io
     write_answer_line(output, &answer)
 }
 
-// Answers a record of which `read` bytes were read. Where none was there is no line.
-fn answer_read<O: Write>(
-    output: &mut O,
-    image: &mut [u8],
-    record: &[u8; 448],
-    read: usize,
-) -> io::Result<()>
-    requires { read ≤ 448 }
-    ensures answered { AnswersRead image.old «record».now read (read_text image.old «record».now read) image.new }
-    ensures printed { OnOk result (Appends (O.contents output.old) (O.contents output.new) (read_text image.old «record».now read)) }
+// Answers what was read of a record. Where nothing was there is no line.
+fn answer_read<O: Write>(output: &mut O, image: &mut [u8], record: &[u8]) -> io::Result<()>
+    ensures answered { AnswersRead image.old «record».now (length «record».now) (read_text image.old «record».now (length «record».now)) image.new }
+    ensures printed { OnOk result (Appends (O.contents output.old) (O.contents output.new) (read_text image.old «record».now (length «record».now))) }
 {
-    if read == 0 {
+    if record.is_empty() {
         return Ok(());
     }
-    print_answer(output, image, &record[..read])
+    print_answer(output, image, record)
 }
 
 // How many bytes were read of a record, and whether its line was written.
@@ -90,16 +81,16 @@ fn next_record<I: Read, O: Write>(
     ensures printed { OnOk result.written (Appends (O.contents output.old) (O.contents output.new) (read_text image.old «record».new result.read)) }
 {
     let read = streams::read_full(input, record);
-    let written = answer_read(output, image, record, read);
+    let written = answer_read(output, image, &record[..read]);
     AnsweredRecord { read, written }
 }
 
 // How many records were taken, how many bytes the last read gave, and whether the last line was written.
 #[derive(Drop)]
-struct TakenRecords {
-    taken: u64,
-    read: usize,
-    written: io::Result<()>,
+pub struct TakenRecords {
+    pub taken: u64,
+    pub read: usize,
+    pub written: io::Result<()>,
 }
 
 // A proved loop has to end: it stops at a number of records that no run reaches.
@@ -108,18 +99,18 @@ fn all_records<I: Read, O: Write>(input: &mut I, output: &mut O, image: &mut [u8
 {
     let mut record = [0u8; 448];
     for taken in 0..u64::MAX {
-        let AnsweredRecord { read: n, written } = next_record(input, output, image, &mut record);
-        if n == 0 {
+        let AnsweredRecord { read, written } = next_record(input, output, image, &mut record);
+        if read == 0 {
             return TakenRecords {
                 taken,
-                read: n,
+                read,
                 written,
             };
         }
-        if n < 448 || written.is_err() {
+        if read < 448 || written.is_err() {
             return TakenRecords {
                 taken: taken + 1,
-                read: n,
+                read,
                 written,
             };
         }
@@ -131,52 +122,38 @@ fn all_records<I: Read, O: Write>(input: &mut I, output: &mut O, image: &mut [u8
     }
 }
 
-// How many bytes were read of the image, and the records after a whole one.
-#[derive(Drop)]
-pub struct Run {
-    pub image_read: usize,
-    pub taken: u64,
-    pub read: usize,
-    pub written: io::Result<()>,
-}
-
-// An image of which `image_read` bytes were read. A short one gets one line, with 30, whatever it holds.
-fn run_image<I: Read, O: Write>(
-    input: &mut I,
-    output: &mut O,
-    image: &mut [u8],
-    image_read: usize,
-) -> Run
-    requires { (length image.old ≡ 36832) × (image_read ≤ 36832) }
-    ensures taken { TakesImage image.old result.image_read (answer_line (record_step (take image_read image.old) []).answer) image.new result.taken result.read (is_ok result.written) × (result.image_read ≡ image_read) }
-    ensures printed { image_read < 36832 → OnOk result.written (Appends (O.contents output.old) (O.contents output.new) (answer_line (record_step (take image_read image.old) []).answer)) }
+// What was read of an image. A short one gets one line, with 30, whatever it holds.
+fn run_image<I: Read, O: Write>(input: &mut I, output: &mut O, image: &mut [u8]) -> TakenRecords
+    requires { length image.old ≤ 36832 }
+    ensures taken { TakesImage image.old (length image.old) (answer_line (record_step image.old []).answer) image.new result.taken result.read (is_ok result.written) }
+    ensures printed { length image.old < 36832 → OnOk result.written (Appends (O.contents output.old) (O.contents output.new) (answer_line (record_step image.old []).answer)) }
 {
-    if image_read < 36832 {
-        let written = print_answer(output, &mut image[..image_read], &[]);
-        return Run {
-            image_read,
+    if image.len() < 36832 {
+        let written = print_answer(output, image, &[]);
+        return TakenRecords {
             taken: 0,
             read: 0,
             written,
         };
     }
-    let TakenRecords {
-        taken,
-        read,
-        written,
-    } = all_records(input, output, image);
-    Run {
-        image_read,
-        taken,
-        read,
-        written,
-    }
+    all_records(input, output, image)
+}
+
+// How many bytes were read of the image, and the records after a whole one.
+#[derive(Drop)]
+pub struct Run {
+    pub image_read: usize,
+    pub records: TakenRecords,
 }
 
 pub fn main_loop<I: Read, O: Write>(input: &mut I, output: &mut O) -> Run
-    ensures { Runs result.image_read result.taken result.read (is_ok result.written) }
+    ensures { Runs result.image_read result.records.taken result.records.read (is_ok result.records.written) }
 {
     let mut image = [0u8; 36832];
-    let n = streams::read_full(input, &mut image);
-    run_image(input, output, &mut image, n)
+    let image_read = streams::read_full(input, &mut image);
+    let records = run_image(input, output, &mut image[..image_read]);
+    Run {
+        image_read,
+        records,
+    }
 }

@@ -1,3 +1,3 @@
 -- Laws that the proofs cite.
 pub mod Transactions
-pub mod Printed
+pub mod Lines

@@ -2,18 +2,22 @@
 #![tactic(auto)]
 
 ghost use Rattle.std.specs.Prelude.{◌≡◌, ◌++◌, [], ◌∷◌, Some};
-ghost use Rattle.amount.specs.Value.{value};
 ghost use Rattle.answer_line.specs.Decimal.{answer_words};
+ghost use Rattle.events.specs.Splice.{amount_bytes};
 ghost use Rattle.journal.specs.Calls.{Call};
 ghost use Rattle.journal.specs.Step.{vault};
+ghost use Rattle.outcome.specs.Outcome.{value_of, count_of};
+ghost use Rattle.refusal.specs.Numbers.{code};
 ghost use Rattle.sha256.specs.Sha256.{sha256};
 ghost use Rattle.token_vault.specs.Vault.{vault_step};
 ghost use Rattle.token_vault.specs.Public.{JournalIs};
 ghost use Rattle.token_vault.specs.Preview.{Request, request_step};
+ghost use Rattle.vault_program.specs.Program.{signed_at};
 ghost use Rattle.vault_vectors.specs.Vectors.{digests, kind_of, text_of, transaction, PrintsStep};
 
-use amount::Amount;
 use answer_line::{Answer, Hexadecimal};
+use outcome::Done;
+use refusal::Refusal;
 use std::fmt;
 
 // A call's answer, and the SHA-256 of the event buffer, the image and the journal after it.
@@ -48,11 +52,11 @@ fn digest(bytes: &[u8]) -> [u8; 32]
     hash
 }
 
-fn step_line(answer: Answer, events: &[u8], image: &[u8], journal: &[u8]) -> StepLine
-    ensures { text_of result ++ (10 ∷ []) ≡ answer_words answer.number (value answer.value) answer.events (digests events.now image.now journal.now) }
+fn step_line(answer: outcome::Answer, events: &[u8], image: &[u8], journal: &[u8]) -> StepLine
+    ensures { text_of result ++ (10 ∷ []) ≡ answer_words (code answer) (signed_at (amount_bytes (value_of answer))) (count_of answer) (digests events.now image.now journal.now) }
 {
     StepLine {
-        answer,
+        answer: vault_program::printed(answer),
         events_digest: digest(events),
         image_digest: digest(image),
         journal_digest: digest(journal),
@@ -67,14 +71,7 @@ pub fn answer_operation(
 ) -> StepLine
     ensures { PrintsStep (vault_step (vault image.old journal.old) (Call.operation «record».now events.old)) (text_of result ++ (10 ∷ [])) image.new journal.new }
 {
-    let mut value = [0u8; 16];
-    let mut count = 0u32;
-    let number = token_vault::call(image, journal, record, events, &mut value, &mut count);
-    let answer = Answer {
-        number,
-        value: vault_program::read_value(&value),
-        events: count,
-    };
+    let answer = token_vault::call(image, journal, record, events);
     step_line(answer, events, image, journal)
 }
 
@@ -82,14 +79,7 @@ pub fn answer_operation(
 pub fn answer_preview(image: &[u8], journal: &[u8], record: &[u8], events: &mut [u8]) -> StepLine
     ensures { PrintsStep (request_step (vault image.now journal.now) (Request.preview «record».now events.old)) (text_of result ++ (10 ∷ [])) image.now journal.now }
 {
-    let mut value = [0u8; 16];
-    let mut count = 0u32;
-    let number = token_vault::preview(image, record, events, &mut value, &mut count);
-    let answer = Answer {
-        number,
-        value: vault_program::read_value(&value),
-        events: count,
-    };
+    let answer = token_vault::preview(image, record, events);
     step_line(answer, events, image, journal)
 }
 
@@ -102,8 +92,8 @@ pub enum Transaction {
     Undo,
 }
 
-fn call_transaction(image: &mut [u8], journal: &mut [u8], kind: Transaction) -> u32
-    ensures { JournalIs (vault_step (vault image.old journal.old) (transaction (kind_of kind))) result image.new journal.new }
+fn call_transaction(image: &mut [u8], journal: &mut [u8], kind: Transaction) -> Result<(), Refusal>
+    ensures { JournalIs (vault_step (vault image.old journal.old) (transaction (kind_of kind))) (code result) image.new journal.new }
 {
     match kind {
         Transaction::Begin => token_vault::begin(image, journal),
@@ -116,10 +106,6 @@ fn call_transaction(image: &mut [u8], journal: &mut [u8], kind: Transaction) -> 
 pub fn answer_transaction(image: &mut [u8], journal: &mut [u8], kind: Transaction) -> StepLine
     ensures { PrintsStep (vault_step (vault image.old journal.old) (transaction (kind_of kind))) (text_of result ++ (10 ∷ [])) image.new journal.new }
 {
-    let answer = Answer {
-        number: call_transaction(image, journal, kind),
-        value: Amount::ZERO,
-        events: 0,
-    };
+    let answer = call_transaction(image, journal, kind).and(Ok(Done::new(0)));
     step_line(answer, &[], image, journal)
 }

@@ -1,7 +1,7 @@
 -- `all_records` meets its contract. The invariant: the records so far are whole, and the image is the one after them.
 use mathlib.Core.Logic.{inl, inr}
 use mathlib.Core.Path.{◌≡◌, refl, ap, ◌∙◌}
-use Rattle.vault_program.proofs.all_records.Goals.{then-n-lt448-via-then-n-lt448, then-n-lt448-via-else-n-lt448+then-is_err}
+use Rattle.vault_program.proofs.all_records.Goals.{then-read-lt448-via-then-read-lt448, then-read-lt448-via-else-read-lt448+then-is_err}
 use native.Mathlib.Omega.{arith}
 use Rattle.std.specs.Prelude.{not}
 use borrow.Author.Rules.{rules}
@@ -11,19 +11,19 @@ use Rattle.vault_program.proofs.all_records.Goals as goal
 pub loop-taken-init : goal.loop-taken-init
 loop-taken-init g c = (none_taken _, refl)
 
-pub returns-then-n-eq0 : goal.returns-then-n-eq0
-returns-then-n-eq0 g c = no_more c.loop-taken.invariant.0 c.next_record-n.ensures.answered.0 (omega arith)
+pub returns-then-read-eq0 : goal.returns-then-read-eq0
+returns-then-read-eq0 g c = no_more c.loop-taken.invariant.0 c.next_record-read.ensures.answered.0 (omega arith)
 
-pub returns-then-n-lt448 : goal.returns-then-n-lt448
-returns-then-n-lt448 g c =
-    last_taken c.loop-taken.invariant.0 c.next_record-n.ensures.answered.0 (omega arith)
-    (elim c.then-n-lt448.branch [
-      | then-n-lt448-via-then-n-lt448 w ↦ inl w.if-n-lt448.true
-      | then-n-lt448-via-else-n-lt448+then-is_err w ↦ inr (w.is_err.ensures.negation ∙ ap not w.if-is_err.true)
+pub returns-then-read-lt448 : goal.returns-then-read-lt448
+returns-then-read-lt448 g c =
+    last_taken c.loop-taken.invariant.0 c.next_record-read.ensures.answered.0 (omega arith)
+    (elim c.then-read-lt448.branch [
+      | then-read-lt448-via-then-read-lt448 w ↦ inl w.if-read-lt448.true
+      | then-read-lt448-via-else-read-lt448+then-is_err w ↦ inr (w.is_err.ensures.negation ∙ ap not w.if-is_err.true)
     ])
 
 pub loop-taken-preserved : goal.loop-taken-preserved
-loop-taken-preserved g c = (one_more c.loop-taken.invariant.0 c.next_record-n.ensures.answered.0 (omega arith) (omega arith), search rules)
+loop-taken-preserved g c = (one_more c.loop-taken.invariant.0 c.next_record-read.ensures.answered.0 (omega arith) (omega arith), search rules)
 
 pub returns : goal.returns
 returns g c = let l = c.loop-taken in let all : l.taken ≡ 18446744073709551615 = omega arith in all_taken {m = l.image} (rw all at l.invariant.0) refl
