@@ -1,5 +1,5 @@
 // Operations 5 `withdraw`, 6 `withdraw_batch` and 8 `withdraw_token` (lib.rs).
-#![tactic(auto)]
+#![tactic(auto, unfolding(fields::specs::Rules::chain, fields::specs::Rules::or_else, crate::specs::Payouts::withdraw_number, crate::specs::Payouts::withdraw_outcome, crate::specs::Token::withdraw_token_number, crate::specs::Token::withdraw_token_outcome), using(outcome::specs::Outcome::refused, crate::specs::Laws::checks_passed, crate::specs::Laws::token_checks_passed, crate::proofs::Whole::paid_out, crate::proofs::Whole::sent_keys))]
 
 ghost use Rattle.std.specs.Prelude.{OnOk, IfOk, ◌≡◌, [], ◌∷◌, ◌+◌, ◌-◌, ◌<◌, ◌≤◌};
 ghost use Rattle.refusal.specs.Numbers.{code};
@@ -218,7 +218,6 @@ fn withdraw_token_checks(img: &Image, head: Head) -> Result<Token, Refusal>
 }
 
 // Operation 5.
-#[tactic(auto, unfolding(fields::specs::Rules::chain, fields::specs::Rules::or_else, crate::specs::Payouts::withdraw_number, crate::specs::Payouts::withdraw_outcome), using(outcome::specs::Outcome::refused, crate::specs::Laws::checks_passed, crate::proofs::Whole::paid_out))]
 pub fn withdraw(img: &mut Image, head: Head, events: &mut Buffer) -> Answer
     requires { Good img.old × (head.other < 64) × (events.old ≡ event_buffer []) }
     ensures { Does (withdraw_outcome img.old head.caller head.signers head.sequence (payout head.other (biased head.amount) ∷ [])) result img.new events.new }
@@ -234,7 +233,6 @@ pub fn withdraw(img: &mut Image, head: Head, events: &mut Buffer) -> Answer
 }
 
 // Operation 6.
-#[tactic(auto, unfolding(fields::specs::Rules::chain, fields::specs::Rules::or_else, crate::specs::Payouts::withdraw_number, crate::specs::Payouts::withdraw_outcome), using(outcome::specs::Outcome::refused, crate::specs::Laws::checks_passed, crate::proofs::Whole::paid_out))]
 pub fn withdraw_batch(img: &mut Image, listed: Items<'_>, head: Head, events: &mut Buffer) -> Answer
     requires good { Good img.old × (events.old ≡ event_buffer []) }
     requires addressed { Addressed (items listed.count 0 listed.rec.now) }
@@ -247,7 +245,6 @@ pub fn withdraw_batch(img: &mut Image, listed: Items<'_>, head: Head, events: &m
 }
 
 // Operation 8.
-#[tactic(auto, unfolding(fields::specs::Rules::chain, fields::specs::Rules::or_else, crate::specs::Token::withdraw_token_number, crate::specs::Token::withdraw_token_outcome), using(outcome::specs::Outcome::refused, crate::specs::Laws::token_checks_passed, crate::proofs::Whole::sent_keys))]
 pub fn withdraw_token(img: &mut Image, head: Head, events: &mut Buffer) -> Answer
     requires { Good img.old × (head.caller < 64) × (head.other < 64) × (events.old ≡ event_buffer []) }
     ensures { Does (withdraw_token_outcome img.old head.token head.caller head.signers head.sequence head.other (biased head.amount)) result img.new events.new }
