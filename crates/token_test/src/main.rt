@@ -2,7 +2,7 @@
 #![tactic(auto)]
 
 use amount::Amount;
-use image::{Address, Image, Token};
+use image::{Address, Image, Kind, Token};
 use refusal::Refusal;
 use std::io;
 
@@ -14,6 +14,11 @@ const ABSENT: Token = Token { address: 50 };
 
 const SENDER: Address = Address { number: 2 };
 
+const RECEIVER: Address = Address { number: 4 };
+
+// It holds 2^127 - 1.
+const FULL: Address = Address { number: 5 };
+
 fn show(rt: &impl Print, image: &Image, token: Token, a: Address) -> io::Result<()> {
     let held = token::balance(image, token, a);
     print!(rt; "{} ", held.0 % (1 << 64))
@@ -22,9 +27,7 @@ fn show(rt: &impl Print, image: &Image, token: Token, a: Address) -> io::Result<
 // 30 where the image is not good.
 #[tactic(auto, using(storage::specs::Facts::facts))]
 fn moved(image: &mut Image, t: u8, from: Address, to: Address, n: u64) -> Result<(), Refusal> {
-    if !image::good_image(image) {
-        return Err(Refusal::InvalidImage);
-    }
+    refusal::refuse_if(!image::good_image(image), Refusal::InvalidImage)?;
     token::transfer(image, t, from, to, Amount::from(n))
 }
 
@@ -48,13 +51,17 @@ fn try_stranger(rt: &impl Print, image: &mut Image, t: u8) -> io::Result<()> {
     println!(rt; "{} ", refusal::number(&answer))
 }
 
+fn give(image: &mut Image, token: Token, a: Address, n: Amount) {
+    amount::write_amount(image, image::holding_at(token, a), n);
+}
+
 fn fill(image: &mut Image) {
-    fields::put64(image, 3680, 1);
-    amount::write_amount(image, 3688, Amount::from(3));
-    fields::put64(image, 3704, 2);
-    amount::write_amount(image, 4080, Amount::from(10));
-    amount::write_amount(image, 4096, Amount::from(100));
-    amount::write_amount(image, 5120, Amount::from(100));
+    image::set_token_kind(image, MOVING, Kind::Moving);
+    amount::write_amount(image, image::toll_at(MOVING), Amount::from(3));
+    image::set_token_kind(image, FROZEN, Kind::Frozen);
+    give(image, MOVING, token::VAULT, Amount::from(10));
+    give(image, MOVING, SENDER, Amount::from(100));
+    give(image, FROZEN, SENDER, Amount::from(100));
 }
 
 // Done, short of the amount, to itself, a toll above the amount, frozen, absent.
@@ -62,17 +69,16 @@ fn plain(rt: &impl Print, image: &mut Image) -> io::Result<()> {
     try_transfer(rt, image, MOVING, token::VAULT, 50)?;
     try_transfer(rt, image, MOVING, token::VAULT, 51)?;
     try_transfer(rt, image, MOVING, SENDER, 20)?;
-    try_transfer(rt, image, MOVING, Address { number: 4 }, 2)?;
+    try_transfer(rt, image, MOVING, RECEIVER, 2)?;
     try_transfer(rt, image, FROZEN, token::VAULT, 1)?;
     try_transfer(rt, image, ABSENT, token::VAULT, 1)
 }
 
 // A receiver at 2^127 - 1: past it, and not, since the toll takes all.
 fn at_the_end(rt: &impl Print, image: &mut Image) -> io::Result<()> {
-    amount::write_amount(image, 4144, Amount(i128::MAX));
-    let to = Address { number: 5 };
-    try_transfer(rt, image, MOVING, to, 4)?;
-    try_transfer(rt, image, MOVING, to, 3)
+    give(image, MOVING, FULL, Amount(i128::MAX));
+    try_transfer(rt, image, MOVING, FULL, 4)?;
+    try_transfer(rt, image, MOVING, FULL, 3)
 }
 
 fn main(rt: HostRuntime) -> io::Result<()> {

@@ -28,6 +28,15 @@ fn write_answer(answer: Answer, value: &mut [u8; 16], event_count: &mut u32) -> 
     refusal::number(&answer)
 }
 
+use amount::Amount;
+use toll_bounds::Range;
+
+// The holdings that are written for a refusal.
+const NO_HOLDINGS: Range = Range {
+    least: Amount::ZERO,
+    greatest: Amount::ZERO,
+};
+
 // A call: its number; value and event count are written for every answer.
 #[unsafe(no_mangle)]
 pub extern "C" fn token_vault_call(
@@ -121,7 +130,7 @@ pub extern "C" fn token_vault_trial_records(
     refusal::number(&last)
 }
 
-// The least and the greatest holding of the vault after amounts are moved in, where the token's toll is known within bounds.
+// The least and the greatest holding of the vault after amounts are moved in, where the token's toll is known within bounds. Both are written for every answer.
 #[unsafe(no_mangle)]
 pub extern "C" fn token_vault_toll_bounds(
     image: &[u8],
@@ -134,13 +143,13 @@ pub extern "C" fn token_vault_toll_bounds(
 ) -> u32
     ensures { BoundsAre (toll_bounds image.now token amounts.now (amount_at least_toll.now 0) (amount_at greatest_toll.now 0)) result least_holding.new greatest_holding.new }
 {
-    toll_bounds::toll_bounds(
-        image,
-        token,
-        amounts,
-        least_toll,
-        greatest_toll,
-        least_holding,
-        greatest_holding,
-    )
+    let tolls = Range {
+        least: amount::read_amount(least_toll, 0),
+        greatest: amount::read_amount(greatest_toll, 0),
+    };
+    let answer = toll_bounds::toll_bounds(image, token, amounts, tolls);
+    let holdings = answer.unwrap_or(NO_HOLDINGS);
+    amount::write_amount(least_holding, 0, holdings.least);
+    amount::write_amount(greatest_holding, 0, holdings.greatest);
+    refusal::number(&answer)
 }

@@ -18,14 +18,14 @@ use Rattle.amount.specs.declared.Amount.{Amount}
 use Rattle.image.specs.Layout.{slot, holding}
 use Rattle.image.specs.Good.{good_image}
 use Rattle.fields.specs.Rules.{link_at_lem}
-use Rattle.toll_bounds.specs.declared.Holdings.{Holdings}
-use Rattle.toll_bounds.specs.Bounds.{Bounds, BoundsAre, amount_count, amount_in, holding_at_toll, image_number, request_number, amounts_number, pass_number, bounds_checks, bounds_number, toll_bounds}
+use Rattle.toll_bounds.specs.declared.Range.{Range}
+use Rattle.toll_bounds.specs.Bounds.{Bounds, BoundsAre, HoldingsAre, amount_count, amount_in, holding_at_toll, image_number, request_number, amounts_number, pass_number, bounds_checks, bounds_number, toll_bounds}
 use Rattle.toll_bounds.specs.Laws.{after_falls, pass_none, bounds_given, bounds_refused, allowed}
-use Rattle.toll_bounds.specs.Parts.{TallyIs, HoldingsAre}
+use Rattle.toll_bounds.specs.Parts.{TallyIs}
 
 module _ (l : List ℕ) (t : ℕ) (a : List ℕ) (least greatest : ℕ) where
   -- ---- refused
-  refused_is : (x : Refusal) (r : Result Holdings Refusal) → IsErr r × IsErrAnd r (λ y. y ≡ x) → number_of x ≡ bounds_number l t a least greatest → HoldingsAre (toll_bounds l t a least greatest) r
+  refused_is : (x : Refusal) (r : Result Range Refusal) → IsErr r × IsErrAnd r (λ y. y ≡ x) → number_of x ≡ bounds_number l t a least greatest → HoldingsAre (toll_bounds l t a least greatest) r
   refused_is x r p e =
       rw (bounds_refused l t a least greatest (λ z. some_number x (e ∙ z)))
       (record {
@@ -46,12 +46,12 @@ module _ (l : List ℕ) (t : ℕ) (a : List ℕ) (least greatest : ℕ) where
     unfolding image_number
     passed_30 = rw g
 
-    pub refused_46 : (x : Refusal) {r : Result Holdings Refusal} → IsErr r × IsErrAnd r (λ y. y ≡ x) → number_of x ≡ request_number l t (length a) least greatest → HoldingsAre (toll_bounds l t a least greatest) r
+    pub refused_46 : (x : Refusal) {r : Result Range Refusal} → IsErr r × IsErrAnd r (λ y. y ≡ x) → number_of x ≡ request_number l t (length a) least greatest → HoldingsAre (toll_bounds l t a least greatest) r
     unfolding bounds_number
     refused_46 x {r} f e = refused_is x r f (link_at_lem (bounds_checks l t a least greatest) 1 _ (passed_30, λ z. some_number x (e ∙ z)) e)
 
     module _ (p : 0 ≡ request_number l t (length a) least greatest) where
-      pub refused_4 : (x : Refusal) {r : Result Holdings Refusal} → IsErr r × IsErrAnd r (λ y. y ≡ x) → number_of x ≡ amounts_number a (amount_count a) → HoldingsAre (toll_bounds l t a least greatest) r
+      pub refused_4 : (x : Refusal) {r : Result Range Refusal} → IsErr r × IsErrAnd r (λ y. y ≡ x) → number_of x ≡ amounts_number a (amount_count a) → HoldingsAre (toll_bounds l t a least greatest) r
       unfolding bounds_number
       refused_4 x {r} f e = refused_is x r f (link_at_lem (bounds_checks l t a least greatest) 2 _ (passed_30, (sym p, λ z. some_number x (e ∙ z))) e)
 
@@ -60,7 +60,7 @@ module _ (l : List ℕ) (t : ℕ) (a : List ℕ) (least greatest : ℕ) where
         at_toll : (toll : ℕ) {r : Result Amount Refusal} → TallyIs toll h (amount_in a) (amount_count a) r → TallyIs toll (holding l (slot t) 1) (amount_in a) (amount_count a) r
         at_toll toll u = rw b at u
 
-        pub refused_7 : (x : Refusal) {r : Result Holdings Refusal} → IsErr r × IsErrAnd r (λ y. y ≡ x) → TallyIs least h (amount_in a) (amount_count a) (Err x) → HoldingsAre (toll_bounds l t a least greatest) r
+        pub refused_7 : (x : Refusal) {r : Result Range Refusal} → IsErr r × IsErrAnd r (λ y. y ≡ x) → TallyIs least h (amount_in a) (amount_count a) (Err x) → HoldingsAre (toll_bounds l t a least greatest) r
         unfolding bounds_number
         refused_7 x {r} f u =
             let e = (at_toll least u).numbered in
@@ -92,12 +92,12 @@ module _ (l : List ℕ) (t : ℕ) (a : List ℕ) (least greatest : ℕ) where
               })
 
 -- ---- the answer written out: d are the holdings that stand for a refusal, h those that are written
-module _ (b : Bounds) (d : Holdings) (z : biased d.least ≡ bias) (w : biased d.greatest ≡ bias) where
-  holdings_are : (r : Result Holdings Refusal) {h : Holdings} → HoldingsAre b r → h ≡ result_unwrap_or r d → (biased h.least ≡ b.least) × (biased h.greatest ≡ b.greatest)
+module _ (b : Bounds) (d : Range) (z : biased d.least ≡ bias) (w : biased d.greatest ≡ bias) where
+  holdings_are : (r : Result Range Refusal) {h : Range} → HoldingsAre b r → h ≡ result_unwrap_or r d → (biased h.least ≡ b.least) × (biased h.greatest ≡ b.greatest)
   holdings_are (Ok x) e f = rw f (e.least, e.greatest)
   holdings_are (Err x) e f = rw f (z ∙ e.least, w ∙ e.greatest)
 
-  pub written_out : (r : Result Holdings Refusal) {h : Holdings} {n : ℕ} (k l : List ℕ) {x y : List ℕ} → HoldingsAre b r → h ≡ result_unwrap_or r d → (length k ≡ 16) × (length l ≡ 16)
+  pub written_out : (r : Result Range Refusal) {h : Range} {n : ℕ} (k l : List ℕ) {x y : List ℕ} → HoldingsAre b r → h ≡ result_unwrap_or r d → (length k ≡ 16) × (length l ≡ 16)
       → n ≡ b.number → x ≡ put_amount k 0 (biased h.least) → y ≡ put_amount l 0 (biased h.greatest) → BoundsAre b n x y
   written_out r k l e f s m p q =
       let (low, high) = holdings_are r e f in

@@ -1,13 +1,16 @@
 -- Toll bounds (docs/FORMATS.md, "Toll bounds"): what address 1 holds after a list of amounts is moved in, at the least and at the greatest toll.
 -- Amounts, tolls and holdings stand as their value plus `bias`; the image is l, the token's address t, and a holds the amounts' bytes.
-use Rattle.std.specs.Prelude.{◌≡◌, Bool, List, [], ◌∷◌, ℕ, zero, suc, ◌+◌, ◌*◌, ◌/◌, ◌%◌, eqb, ltb, length}
+use Rattle.std.specs.Prelude.{◌≡◌, Bool, List, [], ◌∷◌, ℕ, zero, suc, ◌+◌, ◌*◌, ◌/◌, ◌%◌, eqb, ltb, length, Result, MatchResult}
 use Rattle.fields.specs.Logic.{all}
 use Rattle.fields.specs.Rules.{Rule, when, lt, leq, ne, verdict, chain, pick}
-use Rattle.amount.specs.Biased.{bias, amount_at}
+use Rattle.refusal.specs.declared.Refusal.{Refusal}
+use Rattle.refusal.specs.Numbers.{code}
+use Rattle.amount.specs.Biased.{bias, biased, amount_at}
 use Rattle.image.specs.Layout.{slot, kind, holding}
 use Rattle.image.specs.Good.{good_image}
 use Rattle.token.specs.Token.{arrives}
 use Rattle.events.specs.Splice.{amount_bytes}
+use Rattle.toll_bounds.specs.declared.Range.{Range}
 
 -- ---- amounts of sixteen bytes, one after another: how many, and amount i, counted from 0
 abbrev pub amount_count : (a : List ℕ) → ℕ
@@ -112,7 +115,13 @@ toll_bounds l t a least greatest =
     let number = bounds_number l t a least greatest in
     pick (eqb number 0) (given l t a least greatest) (refused number)
 
--- what a caller finds: the number that is returned, and sixteen bytes for each holding
+-- what an answer says of them: a refusal stands for holdings of 0
+pub record HoldingsAre (b : Bounds) (r : Result Range Refusal) : Type 0 where
+  pub numbered : code r ≡ b.number
+  pub least : MatchResult r (λ h. biased h.least ≡ b.least) (λ _. bias ≡ b.least)
+  pub greatest : MatchResult r (λ h. biased h.greatest ≡ b.greatest) (λ _. bias ≡ b.greatest)
+
+-- what a caller from C finds: the number that is returned, and sixteen bytes for each holding
 pub record BoundsAre (b : Bounds) (number : ℕ) (least greatest : List ℕ) : Type 0 where
   pub numbered : number ≡ b.number
   pub least_written : least ≡ amount_bytes b.least

@@ -1,9 +1,9 @@
 -- What follows from the definition: holdings grow with each amount and fall with the toll; and what an answer is, by its number.
-use Rattle.std.specs.Prelude.{◌≡◌, Bool, true, false, List, ℕ, zero, suc, ◌+◌, ◌-◌, ◌/◌, ◌≤◌, ◌<◌, ltb, length}
+use Rattle.std.specs.Prelude.{◌≡◌, Bool, true, false, List, ℕ, zero, suc, ◌+◌, ◌-◌, ◌/◌, ◌≤◌, ◌<◌, length}
 use Rattle.std.proofs.Math.Path.{refl}
-use Rattle.std.proofs.Common.{sym, ap, ◌∙◌, add-zero, zero-add, add-suc, le_refl, add-one, arith, ne_eqb, ltb-true, lt-ltb, le-ltb}
+use Rattle.std.proofs.Common.{sym, ap, ◌∙◌, add-zero, zero-add, add-suc, le_refl, add-one, arith, ne_eqb, ltb-true}
 use Rattle.std.proofs.Math.Decide.{ℕ_discrete}
-use Rattle.fields.specs.Logic.{all-at, all_from, all_stop}
+use Rattle.fields.specs.Logic.{all-at}
 use Rattle.fields.specs.Rules.{pick, stop_at, free, unlinked}
 use Rattle.amount.specs.Biased.{bias}
 use Rattle.image.specs.Good.{good_image}
@@ -68,14 +68,6 @@ picked false k e = absurd (omega arith)
 pub image_good : (l : List ℕ) → image_number l ≡ 0 → good_image l ≡ true
 unfolding image_number
 image_good l e = picked (good_image l) 29 e
-
-pub amounts_none : (a : List ℕ) (n : ℕ) → ((i : ℕ) → i < n → bias < amount_in a i) → 0 ≡ amounts_number a n
-unfolding amounts_number are_above
-amounts_none a n h = rw (all_from (λ i. ltb bias (amount_in a i)) n (λ i k. lt-ltb bias (amount_in a i) (h i k)))
-
-pub amounts_stop : (a : List ℕ) (i n : ℕ) → i < n → amount_in a i ≤ bias → 4 ≡ amounts_number a n
-unfolding amounts_number are_above
-amounts_stop a i n h p = rw (← all_stop (λ k. ltb bias (amount_in a k)) i n h (le-ltb bias (amount_in a i) p))
 
 pub amounts_above : (a : List ℕ) (n : ℕ) → amounts_number a n ≡ 0 → (i : ℕ) → i < n → bias < amount_in a i
 unfolding amounts_number are_above

@@ -8,12 +8,12 @@ returns-in_err-token c = refused_46 _ _ _ _ _ c.requires _ c.from_residual.ensur
 pub returns-in_err-amounts_check : goal.returns-in_err-amounts_check
 returns-in_err-amounts_check c = refused_4 _ _ _ _ _ c.requires c.in_ok-token.ensures.number _ c.from_residual-in_err-amounts_check.ensures c.in_err-amounts_check.ensures
 
-pub returns-in_err-greatest_holding : goal.returns-in_err-greatest_holding
-returns-in_err-greatest_holding c =
+pub returns-in_err-greatest : goal.returns-in_err-greatest
+returns-in_err-greatest c =
     let held = rw c.in_ok-token.ensures.token at c.balance-held.ensures in
-    refused_7 _ _ _ _ _ c.requires c.in_ok-token.ensures.number c.in_ok-amounts_check.ensures held _ c.from_residual-in_err-greatest_holding.ensures c.in_err-greatest_holding.ensures
+    refused_7 _ _ _ _ _ c.requires c.in_ok-token.ensures.number c.in_ok-amounts_check.ensures held _ c.from_residual-in_err-greatest.ensures c.in_err-greatest.ensures
 
-pub returns-in_err-least_holding : goal.returns-in_err-least_holding
-returns-in_err-least_holding c =
+pub returns-in_err-least : goal.returns-in_err-least
+returns-in_err-least c =
     let held = rw c.in_ok-token.ensures.token at c.balance-held.ensures in
-    absurd (low_given _ _ _ _ _ c.requires c.in_ok-token.ensures.number c.in_ok-amounts_check.ensures held c.in_ok-greatest_holding.ensures c.in_err-least_holding.ensures)
+    absurd (low_given _ _ _ _ _ c.requires c.in_ok-token.ensures.number c.in_ok-amounts_check.ensures held c.in_ok-greatest.ensures c.in_err-least.ensures)
