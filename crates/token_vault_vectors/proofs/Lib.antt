@@ -1,2 +1,3 @@
 -- Laws that the proofs cite.
 pub mod Replaying
+pub mod Parsed

@@ -2,3 +2,4 @@
 pub mod Faults
 pub mod Replay
 pub mod Numbers
+pub mod Reading

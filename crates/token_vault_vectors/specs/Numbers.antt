@@ -1,7 +1,9 @@
--- The number of each fault, and of an answer that may be one.
-use Rattle.std.specs.Prelude.{◌≡◌, ℕ, Option, Some, None, Result, Ok, Err, true, false, is_some}
-use Rattle.std.proofs.Common.{arith, refl}
+-- The number of each fault, and of an answer that may be one; and whether the lines were written.
+use Rattle.std.specs.Prelude.{◌≡◌, ℕ, Result, Ok, Err, Bool, true, false}
+use Rattle.std.proofs.Common.{arith}
 use Rattle.token_vault_vectors.specs.declared.Fault.{Fault}
+use Rattle.token_vault_vectors.specs.declared.Stop.{Stop}
+use Rattle.token_vault_vectors.specs.declared.Stop.TheVariants.{Faulty, Unwritten}
 use Rattle.token_vault_vectors.specs.declared.Fault.TheVariants.{HeadCut, ImageTooLong, JournalTooLong, HeadNotZero, ImageCut, JournalCut, CallCut, Kind, CallNotZero, Needless, RecordTooLong, EventsTooLong, RecordCut}
 
 abbrev pub number_of : Fault → ℕ
@@ -20,13 +22,19 @@ number_of EventsTooLong = 12
 number_of RecordCut = 13
 
 -- 0 where there is none
-abbrev pub number_or_zero : Option Fault → ℕ
-number_or_zero None = 0
-number_or_zero (Some fault) = number_of fault
-
 abbrev pub code : {T : Type 0} → Result T Fault → ℕ
 code (Ok _) = 0
 code (Err fault) = number_of fault
+
+abbrev pub fault_of : {T : Type 0} → Result T Stop → ℕ
+fault_of (Ok _) = 0
+fault_of (Err (Faulty fault)) = number_of fault
+fault_of (Err (Unwritten _)) = 0
+
+abbrev pub is_written : {T : Type 0} → Result T Stop → Bool
+is_written (Ok _) = true
+is_written (Err (Faulty _)) = true
+is_written (Err (Unwritten _)) = false
 
 -- no fault has the number 0
 pub some_number : (fault : Fault) → number_of fault ≡ 0 → ⊥
@@ -43,11 +51,3 @@ some_number Needless h = absurd (omega arith)
 some_number RecordTooLong h = absurd (omega arith)
 some_number EventsTooLong h = absurd (omega arith)
 some_number RecordCut h = absurd (omega arith)
-
-pub number_where : (o : Option Fault) → is_some o ≡ true → number_or_zero o ≡ 0 → ⊥
-number_where None e h = cc
-number_where (Some fault) e h = some_number fault h
-
-pub zero_where : (o : Option Fault) → is_some o ≡ false → number_or_zero o ≡ 0
-zero_where None e = refl
-zero_where (Some fault) e = cc

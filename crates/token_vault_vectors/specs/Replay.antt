@@ -1,5 +1,5 @@
 -- What is made of the bytes that are read: a call, the calls of a list, a list, and all lists (docs/VECTORS.md).
-use Rattle.std.specs.Prelude.{◌≡◌, Bool, false, List, ◌⊎◌, ℕ, ◌≤◌, ◌<◌, eqb, length, take, get_or, replicate, Option, Some, None, refl}
+use Rattle.std.specs.Prelude.{◌≡◌, Bool, false, List, ◌⊎◌, ℕ, ◌≤◌, ◌<◌, eqb, length, take, get_or, replicate, refl}
 use Rattle.std.proofs.Common.{sym}
 use Rattle.fields.specs.Bytes.{le}
 use Rattle.fields.specs.Rules.{pick}
@@ -8,8 +8,8 @@ use Rattle.journal.specs.Step.{vault}
 use Rattle.token_vault.specs.Preview.{Request, call, preview, request_step, run_requests}
 use Rattle.vault_vectors.specs.declared.Transaction.TheVariants.{Begin, Commit, Rollback, Undo}
 use Rattle.vault_vectors.specs.Vectors.{step_line, transaction, kind_of, PrintsStep}
-use Rattle.token_vault_vectors.specs.declared.Kind.{Kind}
-use Rattle.token_vault_vectors.specs.declared.Kind.TheVariants.{Operation, Transaction, Preview}
+use Rattle.token_vault_vectors.specs.declared.heads.Kind.{Kind}
+use Rattle.token_vault_vectors.specs.declared.heads.Kind.TheVariants.{Operation, Transaction, Preview}
 use Rattle.token_vault_vectors.specs.Faults.{head_fault, state_fault, call_fault}
 
 -- t is the line of some step
@@ -34,10 +34,6 @@ abbrev pub byte_of : Kind → ℕ
 byte_of Operation = 0
 byte_of (Transaction t) = kind_of t
 byte_of Preview = 5
-
-abbrev pub IsKind : Option Kind → ℕ → Type 0
-IsKind (Some kind) b = byte_of kind ≡ b
-IsKind None b = 5 < b
 
 -- what a kind asks for with the record r and the event buffer e
 abbrev pub asked : Kind → (r e : List ℕ) → Request

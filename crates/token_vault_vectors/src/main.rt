@@ -1,17 +1,22 @@
 // Replays the vectors of docs/VECTORS.md: lists of calls from standard input, a line a call to standard output. The stored lines are those of the contract's Rust and of the model. At malformed input the run ends with a line to standard error.
 #![tactic(auto)]
 
-ghost use Rattle.std.specs.Prelude.{◌≡◌, ◌≤◌, ◌++◌, [], ◌∷◌, length, take, get_or, replicate, Some, IfOk, OnOk, is_ok};
+ghost use Rattle.std.specs.Prelude.{◌≡◌, ◌++◌, [], ◌∷◌, length, take, replicate, ltb, Some, Err, IfOk, OnOk};
 ghost use Rattle.std.specs.Io.KnownBytes.{Appends};
 ghost use Rattle.std.specs.Fmt.{with_newline};
-ghost use Rattle.fields.specs.Bytes.{le};
+ghost use Rattle.fields.specs.Logic.{◌and◌, ◌or◌};
 ghost use Rattle.journal.specs.Step.{vault};
 ghost use Rattle.token_vault.specs.Preview.{request_step};
 ghost use Rattle.vault_vectors.specs.Vectors.{PrintsStep, step_line, text_of};
-ghost use Rattle.token_vault_vectors.specs.Faults.{head_fault, state_fault, has_needless, call_head_fault, record_fault, call_fault, fault_text, fault_line};
-ghost use Rattle.token_vault_vectors.specs.Numbers.{number_of, number_or_zero, code};
-ghost use Rattle.token_vault_vectors.specs.Replay.{IsStepLine, IsKind, byte_of, asked, request_of, AnswersCall, TakesCalls, TakesState, RunsList, TakesList, WithJournal, NextList, IsFault, ListsEnd};
+ghost use Rattle.token_vault_vectors.specs.declared.Stop.TheVariants.{Faulty, Unwritten};
+ghost use Rattle.token_vault_vectors.specs.Faults.{head_fault, call_head_fault, fault_text, fault_line};
+ghost use Rattle.token_vault_vectors.specs.Numbers.{number_of, code, fault_of, is_written};
+ghost use Rattle.token_vault_vectors.specs.Replay.{IsStepLine, byte_of, asked, TakesCalls, RunsList, TakesList, WithJournal, NextList, IsFault, ListsEnd};
+ghost use Rattle.token_vault_vectors.specs.Reading.{IsKind, CallHeadOf, ListHeadOf, ReadsWhole, ReadsCall, ReadsState, TakesCall};
 
+mod heads;
+
+use heads::{CallHead, Kind, ListHead};
 use std::io::{Read, Write};
 use std::{fmt, io};
 use vault_vectors::{StepLine, Transaction};
@@ -56,51 +61,74 @@ impl fmt::Display for Fault {
     }
 }
 
-// What is asked by a call, in the first byte of its head.
-#[derive(Clone, Copy, Debug, PartialEq, Eq)]
-enum Kind {
-    Operation,
-    Transaction(Transaction),
-    Preview,
+// What ends the lists before the input does.
+#[derive(Drop)]
+enum Stop {
+    Faulty(Fault),
+    Unwritten(io::Error),
 }
 
-impl Kind {
-    fn of(byte: u8) -> Option<Kind>
-        ensures { IsKind result byte }
-    {
+impl From<Fault> for Stop {
+    ghost from_gives = { λ fault stop. stop ≡ Faulty fault };
+
+    fn from(fault: Fault) -> Stop {
+        Stop::Faulty(fault)
+    }
+}
+
+impl From<io::Error> for Stop {
+    ghost from_gives = { λ error stop. stop ≡ Unwritten error };
+
+    fn from(error: io::Error) -> Stop {
+        Stop::Unwritten(error)
+    }
+}
+
+impl TryFrom<u8> for Kind {
+    type Error = Fault;
+
+    ghost try_from_gives = { λ byte result. IsKind byte result };
+
+    fn try_from(byte: u8) -> Result<Kind, Fault> {
         match byte {
-            0 => Some(Kind::Operation),
-            1 => Some(Kind::Transaction(Transaction::Begin)),
-            2 => Some(Kind::Transaction(Transaction::Commit)),
-            3 => Some(Kind::Transaction(Transaction::Rollback)),
-            4 => Some(Kind::Transaction(Transaction::Undo)),
-            5 => Some(Kind::Preview),
-            _ => None,
+            0 => Ok(Kind::Operation),
+            1 => Ok(Kind::Transaction(Transaction::Begin)),
+            2 => Ok(Kind::Transaction(Transaction::Commit)),
+            3 => Ok(Kind::Transaction(Transaction::Rollback)),
+            4 => Ok(Kind::Transaction(Transaction::Undo)),
+            5 => Ok(Kind::Preview),
+            _ => Err(Fault::Kind),
         }
     }
 }
 
-// A whole call: the event buffer is filled with `fill` before it.
-#[derive(Clone, Copy)]
-struct Request<'a> {
-    kind: Kind,
-    fill: u8,
-    record: &'a [u8],
+impl Kind {
+    // Only an operation and its preview have a record and an event buffer.
+    #[tactic(auto, using(fields::specs::Logic::and_is, fields::specs::Logic::or_is))]
+    fn has_needless(self, record_length: u16, events_length: u16) -> bool
+        ensures { result ≡ (ltb 0 (byte_of self) and ltb (byte_of self) 5) and (ltb 0 record_length or ltb 0 events_length) }
+    {
+        matches!(self, Kind::Transaction(_)) & ((record_length > 0) | (events_length > 0))
+    }
 }
 
+// The event buffer is filled before the call.
 fn answer_call(
     image: &mut [u8],
     journal: &mut [u8],
-    request: Request<'_>,
-    events: &mut [u8],
+    head: CallHead,
+    record: &[u8; 512],
+    events: &mut [u8; 1024],
 ) -> StepLine
-    ensures { PrintsStep (request_step (vault image.old journal.old) (asked request.entry.kind request.entry.«record».now (replicate (length events.old) request.entry.fill))) (text_of result ++ (10 ∷ [])) image.new journal.new }
+    ensures { PrintsStep (request_step (vault image.old journal.old) (asked head.kind (take head.record_length «record».now) (replicate head.events_length head.fill))) (text_of result ++ (10 ∷ [])) image.new journal.new }
 {
-    events.fill(request.fill);
-    match request.kind {
-        Kind::Operation => vault_vectors::answer_operation(image, journal, request.record, events),
+    let record = &record[..head.record_length];
+    let events = &mut events[..head.events_length];
+    events.fill(head.fill);
+    match head.kind {
+        Kind::Operation => vault_vectors::answer_operation(image, journal, record, events),
         Kind::Transaction(kind) => vault_vectors::answer_transaction(image, journal, kind),
-        Kind::Preview => vault_vectors::answer_preview(image, journal, request.record, events),
+        Kind::Preview => vault_vectors::answer_preview(image, journal, record, events),
     }
 }
 
@@ -112,151 +140,63 @@ fn write_step_line<O: Write>(output: &mut O, line: &StepLine) -> io::Result<()>
     streams::print_line::<512, _, _>(output, line)
 }
 
-fn run_call<O: Write>(
-    output: &mut O,
-    image: &mut [u8],
-    journal: &mut [u8],
-    request: Request<'_>,
-    events: &mut [u8],
-) -> io::Result<()>
-    ensures step { let s = request_step (vault image.old journal.old) (asked request.entry.kind request.entry.«record».now (replicate (length events.old) request.entry.fill)) in PrintsStep s (step_line s) image.new journal.new }
-    ensures printed { OnOk result (Appends (O.contents output.old) (O.contents output.new) (step_line (request_step (vault image.old journal.old) (asked request.entry.kind request.entry.«record».now (replicate (length events.old) request.entry.fill))))) }
-{
-    let line = answer_call(image, journal, request, events);
-    write_step_line(output, &line)
+impl CallHead {
+    #[tactic(auto, unfolding(crate::specs::Faults::call_head_fault, fields::specs::Rules::verdict))]
+    fn parse(bytes: &[u8]) -> Result<CallHead, Fault>
+        ensures fault { code result ≡ call_head_fault (length bytes.now) bytes.now }
+        ensures head { IfOk result (λ head. CallHeadOf bytes.now head) }
+    {
+        let Ok(bytes) = <&[u8; 8]>::try_from(bytes) else {
+            return Err(Fault::CallCut);
+        };
+        let kind = Kind::try_from(bytes[0])?;
+        let record_length = fields::get16(bytes, 2);
+        let events_length = fields::get16(bytes, 4);
+        if fields::get16(bytes, 6) != 0 {
+            return Err(Fault::CallNotZero);
+        }
+        if kind.has_needless(record_length, events_length) {
+            return Err(Fault::Needless);
+        }
+        if record_length > 512 {
+            return Err(Fault::RecordTooLong);
+        }
+        if events_length > 1024 {
+            return Err(Fault::EventsTooLong);
+        }
+        Ok(CallHead {
+            kind,
+            fill: bytes[1],
+            record_length: usize::from(record_length),
+            events_length: usize::from(events_length),
+        })
+    }
 }
 
-// How many bytes were read of the head of a call, and of its record.
-#[derive(Clone, Copy)]
-struct CallRead {
-    head_read: usize,
-    record_read: usize,
-}
-
-// Only an operation and its preview have a record and an event buffer.
-#[tactic(auto, unfolding(crate::specs::Faults::has_needless), using(fields::specs::Logic::and_is, fields::specs::Logic::or_is))]
-fn has_needless(head: &[u8; 8]) -> bool
-    ensures { result ≡ has_needless head.now }
+// A buffer that is not read to its end has the fault `cut`.
+fn read_whole<I: Read>(input: &mut I, buffer: &mut [u8], cut: Fault) -> Result<(), Fault>
+    ensures { ReadsWhole (length buffer.new) (number_of cut) (code result) }
 {
-    let n = fields::get16(head, 2);
-    let m = fields::get16(head, 4);
-    let is_transaction = (head[0] > 0) & (head[0] < 5);
-    is_transaction & ((n > 0) | (m > 0))
-}
-
-#[tactic(auto, unfolding(crate::specs::Faults::call_head_fault, fields::specs::Rules::verdict))]
-fn check_call_head(head: &[u8; 8], head_read: usize) -> Result<Kind, Fault>
-    ensures fault { code result ≡ call_head_fault head_read head.now }
-    ensures kind { IfOk result (λ kind. byte_of kind ≡ get_or head.now 0 0) }
-{
-    if head_read != 8 {
-        return Err(Fault::CallCut);
-    }
-    let Some(kind) = Kind::of(head[0]) else {
-        return Err(Fault::Kind);
-    };
-    if fields::get16(head, 6) != 0 {
-        return Err(Fault::CallNotZero);
-    }
-    if has_needless(head) {
-        return Err(Fault::Needless);
-    }
-    if fields::get16(head, 2) > 512 {
-        return Err(Fault::RecordTooLong);
-    }
-    if fields::get16(head, 4) > 1024 {
-        return Err(Fault::EventsTooLong);
-    }
-    Ok(kind)
-}
-
-#[tactic(auto, unfolding(crate::specs::Faults::record_fault, fields::specs::Rules::verdict))]
-fn check_record(head: &[u8; 8], record_read: usize) -> Result<(), Fault>
-    ensures { code result ≡ record_fault head.now record_read }
-{
-    if record_read != fields::get16(head, 2) as usize {
-        return Err(Fault::RecordCut);
+    if streams::read_full(input, buffer) != buffer.len() {
+        return Err(cut);
     }
     Ok(())
 }
 
-fn check_call(head: &[u8; 8], read: CallRead) -> Result<Kind, Fault>
-    ensures fault { code result ≡ call_fault read.head_read head.now read.record_read }
-    ensures kind { IfOk result (λ kind. byte_of kind ≡ get_or head.now 0 0) }
-{
-    let kind = check_call_head(head, read.head_read)?;
-    check_record(head, read.record_read)?;
-    Ok(kind)
-}
-
-// What was read of a call, its fault, and whether its line was written.
-#[derive(Drop)]
-struct AnsweredCall {
-    read: CallRead,
-    fault: Option<Fault>,
-    written: io::Result<()>,
-}
-
-// The record stands at the start of `record`; `events` is as long as an event buffer may be.
-fn fit_call<O: Write>(
-    output: &mut O,
-    image: &mut [u8],
-    journal: &mut [u8],
-    head: &[u8; 8],
-    record: &[u8],
-    read: CallRead,
-    events: &mut [u8],
-) -> AnsweredCall
-    requires { (read.record_read ≤ length «record».now) × (length events.old ≡ 1024) }
-    ensures answered { AnswersCall (vault image.old journal.old) result.read.head_read head.now result.read.record_read «record».now (number_or_zero result.fault) (step_line (request_step (vault image.old journal.old) (request_of head.now (take read.record_read «record».now)))) image.new journal.new × (result.read ≡ read) }
-    ensures printed { number_or_zero result.fault ≡ 0 → OnOk result.written (Appends (O.contents output.old) (O.contents output.new) (step_line (request_step (vault image.old journal.old) (request_of head.now (take read.record_read «record».now))))) }
-{
-    match check_call(head, read) {
-        Err(fault) => AnsweredCall {
-            read,
-            fault: Some(fault),
-            written: Ok(()),
-        },
-        Ok(kind) => {
-            let request = Request {
-                kind,
-                fill: head[1],
-                record: &record[..read.record_read],
-            };
-            let m = fields::get16(head, 4) as usize;
-            let written = run_call(output, image, journal, request, &mut events[..m]);
-            AnsweredCall {
-                read,
-                fault: None,
-                written,
-            }
-        }
-    }
-}
-
 // A record is read where nothing is wrong with the head.
-fn read_call<I: Read>(input: &mut I, head: &mut [u8; 8], record: &mut [u8]) -> CallRead
-    requires { length «record».old ≡ 512 }
-    ensures { result.record_read ≤ 512 }
+fn read_call<I: Read>(input: &mut I, record: &mut [u8; 512]) -> Result<CallHead, Fault>
+    ensures { ReadsCall result }
 {
-    let head_read = streams::read_full(input, head);
-    let record_read = match check_call_head(head, head_read) {
-        Err(_) => 0,
-        Ok(_) => {
-            let n = fields::get16(head, 2) as usize;
-            streams::read_full(input, &mut record[..n])
-        }
-    };
-    CallRead {
-        head_read,
-        record_read,
-    }
+    let mut bytes = [0u8; 8];
+    let n = streams::read_full(input, &mut bytes);
+    let head = CallHead::parse(&bytes[..n])?;
+    read_whole(input, &mut record[..head.record_length], Fault::RecordCut)?;
+    Ok(head)
 }
 
 // What the calls of a list are read into, each as long as it may be.
 #[derive(Drop)]
 struct CallBuffers {
-    head: [u8; 8],
     record: [u8; 512],
     events: [u8; 1024],
 }
@@ -264,7 +204,6 @@ struct CallBuffers {
 impl CallBuffers {
     fn new() -> CallBuffers {
         CallBuffers {
-            head: [0u8; 8],
             record: [0u8; 512],
             events: [0u8; 1024],
         }
@@ -277,27 +216,35 @@ fn next_call<I: Read, O: Write>(
     image: &mut [u8],
     journal: &mut [u8],
     buffers: &mut CallBuffers,
-) -> AnsweredCall
-    ensures answered { AnswersCall (vault image.old journal.old) result.read.head_read buffers.new.head result.read.record_read buffers.new.«record» (number_or_zero result.fault) (step_line (request_step (vault image.old journal.old) (request_of buffers.new.head (take result.read.record_read buffers.new.«record»)))) image.new journal.new }
-    ensures printed { number_or_zero result.fault ≡ 0 → OnOk result.written (Appends (O.contents output.old) (O.contents output.new) (step_line (request_step (vault image.old journal.old) (request_of buffers.new.head (take result.read.record_read buffers.new.«record»))))) }
+) -> Result<(), Stop>
+    ensures { TakesCall (vault image.old journal.old) (fault_of result) image.new journal.new (λ line. OnOk result (Appends (O.contents output.old) (O.contents output.new) line)) }
 {
-    let CallBuffers {
-        head,
-        record,
-        events,
-    } = buffers;
-    let read = read_call(input, head, record);
-    fit_call(output, image, journal, head, record, read, events)
+    let CallBuffers { record, events } = buffers;
+    let head = read_call(input, record)?;
+    let line = answer_call(image, journal, head, record, events);
+    write_step_line(output, &line)?;
+    Ok(())
 }
 
-// How many calls were taken, the fault that ended them, and whether the last line was written.
+// How many calls were taken, and how they ended.
 #[derive(Drop)]
 struct TakenCalls {
     taken: u32,
-    fault: Option<Fault>,
-    written: io::Result<()>,
+    ended: Result<(), Stop>,
 }
 
+impl From<Fault> for TakenCalls {
+    ghost from_gives = { λ fault calls. (calls.taken ≡ 0) × (calls.ended ≡ Err (Faulty fault)) };
+
+    fn from(fault: Fault) -> TakenCalls {
+        TakenCalls {
+            taken: 0,
+            ended: Err(Stop::Faulty(fault)),
+        }
+    }
+}
+
+// A call whose line was not written was taken.
 fn all_calls<I: Read, O: Write>(
     input: &mut I,
     output: &mut O,
@@ -305,77 +252,33 @@ fn all_calls<I: Read, O: Write>(
     journal: &mut [u8],
     count: u32,
 ) -> TakenCalls
-    ensures { TakesCalls (vault image.old journal.old) (vault image.new journal.new) count result.taken (number_or_zero result.fault) (is_ok result.written) }
+    ensures { TakesCalls (vault image.old journal.old) (vault image.new journal.new) count result.taken (fault_of result.ended) (is_written result.ended) }
 {
     let mut buffers = CallBuffers::new();
     for taken in 0..count {
-        let AnsweredCall { fault, written, .. } = next_call(
-            input,
-            output,
-            image,
-            journal,
-            &mut buffers,
-        );
-        if fault.is_some() {
-            return TakenCalls {
+        match next_call(input, output, image, journal, &mut buffers) {
+            Ok(()) => {}
+            Err(Stop::Faulty(fault)) => return TakenCalls {
                 taken,
-                fault,
-                written: Ok(()),
-            };
-        }
-        if written.is_err() {
-            return TakenCalls {
+                ended: Err(Stop::Faulty(fault)),
+            },
+            Err(Stop::Unwritten(error)) => return TakenCalls {
                 taken: taken + 1,
-                fault: None,
-                written,
-            };
+                ended: Err(Stop::Unwritten(error)),
+            },
         }
     }
     TakenCalls {
         taken: count,
-        fault: None,
-        written: Ok(()),
+        ended: Ok(()),
     }
 }
 
-#[tactic(auto, unfolding(crate::specs::Faults::state_fault, fields::specs::Rules::verdict))]
-fn check_state(
-    image: &[u8],
-    journal: &[u8],
-    image_read: usize,
-    journal_read: usize,
-) -> Result<(), Fault>
-    ensures { code result ≡ state_fault image_read journal_read (vault image.now journal.now) }
+fn read_state<I: Read>(input: &mut I, image: &mut [u8], journal: &mut [u8]) -> Result<(), Fault>
+    ensures { ReadsState (vault image.new journal.new) (code result) }
 {
-    if image_read != image.len() {
-        return Err(Fault::ImageCut);
-    }
-    if journal_read != journal.len() {
-        return Err(Fault::JournalCut);
-    }
-    Ok(())
-}
-
-// A list of whose image and journal so many bytes were read.
-fn take_list<I: Read, O: Write>(
-    input: &mut I,
-    output: &mut O,
-    image: &mut [u8],
-    journal: &mut [u8],
-    image_read: usize,
-    journal_read: usize,
-    count: u32,
-) -> TakenCalls
-    ensures { TakesState (vault image.old journal.old) (vault image.new journal.new) image_read journal_read count result.taken (number_or_zero result.fault) (is_ok result.written) }
-{
-    match check_state(image, journal, image_read, journal_read) {
-        Err(fault) => TakenCalls {
-            taken: 0,
-            fault: Some(fault),
-            written: Ok(()),
-        },
-        Ok(()) => { all_calls(input, output, image, journal, count) }
-    }
+    read_whole(input, image, Fault::ImageCut)?;
+    read_whole(input, journal, Fault::JournalCut)
 }
 
 // A list whose head was read: image and journal have their lengths.
@@ -386,64 +289,59 @@ fn run_list<I: Read, O: Write>(
     journal: &mut [u8],
     count: u32,
 ) -> TakenCalls
-    ensures { RunsList image.new journal.new count result.taken (number_or_zero result.fault) (is_ok result.written) }
+    ensures { RunsList image.new journal.new count result.taken (fault_of result.ended) (is_written result.ended) }
 {
-    let image_read = streams::read_full(input, image);
-    let journal_read = streams::read_full(input, journal);
-    take_list(
-        input,
-        output,
-        image,
-        journal,
-        image_read,
-        journal_read,
-        count,
-    )
+    match read_state(input, image, journal) {
+        Ok(()) => all_calls(input, output, image, journal, count),
+        Err(fault) => TakenCalls::from(fault),
+    }
 }
 
-#[tactic(auto, unfolding(crate::specs::Faults::head_fault, fields::specs::Rules::verdict))]
-fn check_head(head: &[u8; 16], head_read: usize) -> Result<(), Fault>
-    ensures { code result ≡ head_fault head_read head.now }
-{
-    if head_read != 16 {
-        return Err(Fault::HeadCut);
+impl ListHead {
+    #[tactic(auto, unfolding(crate::specs::Faults::head_fault, fields::specs::Rules::verdict))]
+    fn parse(bytes: &[u8]) -> Result<ListHead, Fault>
+        ensures fault { code result ≡ head_fault (length bytes.now) bytes.now }
+        ensures head { IfOk result (λ head. ListHeadOf bytes.now head) }
+    {
+        let Ok(bytes) = <&[u8; 16]>::try_from(bytes) else {
+            return Err(Fault::HeadCut);
+        };
+        let image_length = fields::get32(bytes, 0) as usize;
+        let journal_length = fields::get32(bytes, 4) as usize;
+        if image_length > 36848 {
+            return Err(Fault::ImageTooLong);
+        }
+        if journal_length > 48048 {
+            return Err(Fault::JournalTooLong);
+        }
+        if fields::get32(bytes, 12) != 0 {
+            return Err(Fault::HeadNotZero);
+        }
+        Ok(ListHead {
+            image_length,
+            journal_length,
+            count: fields::get32(bytes, 8),
+        })
     }
-    if fields::get32(head, 0) > 36848 {
-        return Err(Fault::ImageTooLong);
-    }
-    if fields::get32(head, 4) > 48048 {
-        return Err(Fault::JournalTooLong);
-    }
-    if fields::get32(head, 12) != 0 {
-        return Err(Fault::HeadNotZero);
-    }
-    Ok(())
 }
 
-// `image` and `journal` are as long as they may be.
+// What was read of the head is `head`.
 fn fit_list<I: Read, O: Write>(
     input: &mut I,
     output: &mut O,
-    image: &mut [u8],
-    journal: &mut [u8],
-    head: &[u8; 16],
-    head_read: usize,
+    image: &mut [u8; 36848],
+    journal: &mut [u8; 48048],
+    head: &[u8],
 ) -> TakenCalls
-    requires { (length image.old ≡ 36848) × (length journal.old ≡ 48048) }
-    ensures { TakesList head_read head.now image.new journal.new result.taken (number_or_zero result.fault) (is_ok result.written) }
+    ensures { TakesList (length head.now) head.now image.new journal.new result.taken (fault_of result.ended) (is_written result.ended) }
 {
-    match check_head(head, head_read) {
-        Err(fault) => TakenCalls {
-            taken: 0,
-            fault: Some(fault),
-            written: Ok(()),
-        },
-        Ok(()) => {
-            let n = fields::get32(head, 0) as usize;
-            let m = fields::get32(head, 4) as usize;
-            let count = fields::get32(head, 8);
-            run_list(input, output, &mut image[..n], &mut journal[..m], count)
+    match ListHead::parse(head) {
+        Ok(head) => {
+            let image = &mut image[..head.image_length];
+            let journal = &mut journal[..head.journal_length];
+            run_list(input, output, image, journal, head.count)
         }
+        Err(fault) => TakenCalls::from(fault),
     }
 }
 
@@ -451,15 +349,13 @@ fn fit_list<I: Read, O: Write>(
 fn with_journal<I: Read, O: Write>(
     input: &mut I,
     output: &mut O,
-    image: &mut [u8],
-    head: &[u8; 16],
-    head_read: usize,
+    image: &mut [u8; 36848],
+    head: &[u8],
 ) -> TakenCalls
-    requires { length image.old ≡ 36848 }
-    ensures { WithJournal head_read head.now image.new result.taken (number_or_zero result.fault) (is_ok result.written) }
+    ensures { WithJournal (length head.now) head.now image.new result.taken (fault_of result.ended) (is_written result.ended) }
 {
     let mut journal = [0u8; 48048];
-    fit_list(input, output, image, &mut journal, head, head_read)
+    fit_list(input, output, image, &mut journal, head)
 }
 
 // How many bytes were read of the head of a list, and its calls.
@@ -471,7 +367,7 @@ struct TakenList {
 
 // Where none of the head was read the input ends, and there is no list.
 fn next_list<I: Read, O: Write>(input: &mut I, output: &mut O) -> TakenList
-    ensures { NextList result.head_read result.calls.taken (number_or_zero result.calls.fault) (is_ok result.calls.written) }
+    ensures { NextList result.head_read result.calls.taken (fault_of result.calls.ended) (is_written result.calls.ended) }
 {
     let mut head = [0u8; 16];
     let mut image = [0u8; 36848];
@@ -481,45 +377,41 @@ fn next_list<I: Read, O: Write>(input: &mut I, output: &mut O) -> TakenList
             head_read,
             calls: TakenCalls {
                 taken: 0,
-                fault: None,
-                written: Ok(()),
+                ended: Ok(()),
             },
         };
     }
-    let calls = with_journal(input, output, &mut image, &head, head_read);
+    let calls = with_journal(input, output, &mut image, &head[..head_read]);
     TakenList { head_read, calls }
 }
 
-// How many lists were taken to their end; and of the last one how many bytes were read of its head, its fault, and whether its lines were written.
+// How many lists were taken to their end; how many bytes were read of the last one's head, and how it ended.
 #[derive(Drop)]
 struct TakenLists {
     taken: u64,
     head_read: usize,
-    fault: Option<Fault>,
-    written: io::Result<()>,
+    ended: Result<(), Stop>,
 }
 
 // A proved loop has to end: it stops at a number of lists that no run reaches.
 fn all_lists<I: Read, O: Write>(input: &mut I, output: &mut O) -> TakenLists
-    ensures { ListsEnd result.taken result.head_read (number_or_zero result.fault) (is_ok result.written) }
+    ensures { ListsEnd result.taken result.head_read (fault_of result.ended) (is_written result.ended) }
 {
     for taken in 0..u64::MAX {
         let TakenList { head_read, calls } = next_list(input, output);
-        let TakenCalls { fault, written, .. } = calls;
-        if head_read == 0 || fault.is_some() || written.is_err() {
+        let TakenCalls { ended, .. } = calls;
+        if head_read == 0 || ended.is_err() {
             return TakenLists {
                 taken,
                 head_read,
-                fault,
-                written,
+                ended,
             };
         }
     }
     TakenLists {
         taken: u64::MAX,
         head_read: 16,
-        fault: None,
-        written: Ok(()),
+        ended: Ok(()),
     }
 }
 
@@ -544,7 +436,7 @@ fn write_fault<E: Write>(error: &mut E, fault: Fault) -> io::Result<()>
 
 fn main(rt: HostRuntime) {
     let lists = all_lists(&mut rt.stdin(), &mut rt.stdout());
-    if let Some(fault) = lists.fault {
+    if let Err(Stop::Faulty(fault)) = lists.ended {
         write_fault(&mut rt.stderr(), fault).ok();
     }
 }

@@ -27,10 +27,6 @@ pub record Making (start first : ℕ) (l₀ : List ℕ) (n last : ℕ) (l : List
   pub arrived : last ≡ reached_from start n
   pub written : l ≡ records_from start first n ++ drop (448 * n) l₀
 
-pub making_starts : (start first : ℕ) (l₀ : List ℕ) → Making start first l₀ 0 start l₀
-unfolding records_from reached_from
-making_starts start first l₀ = record { arrived = refl; written = refl }
-
 -- one record more: the k bytes behind n records, which are 448, are written
 pub making_more : (start first : ℕ) (l₀ : List ℕ) (n last : ℕ) (l m : List ℕ) (k : ℕ) → Making start first l₀ n last l → k ≡ 448
     → m ≡ take (448 * n) l ++ (trial_record last (first + n) ++ drop k (drop (448 * n) l)) → Making start first l₀ (n + 1) (steps 6 last) m
@@ -46,9 +42,3 @@ making_more start first l₀ n last l m k g j e =
       arrived = rw (add-one, g.arrived);
       written = e ∙ rw (front, behind, add-one, g.arrived) (sym (append_assoc (records_from start first n) (trial_record (reached_from start n) (first + n)) (drop (448 * suc n) l₀)));
     }
-
-pub making_ends : (start first : ℕ) (l₀ : List ℕ) (n last : ℕ) (l : List ℕ) → Making start first l₀ n last l → n ≡ length l₀ / 448 → length l₀ % 448 ≡ 0
-    → (l ≡ records_from start first (length l₀ / 448)) × (last ≡ reached_from start (length l₀ / 448))
-making_ends start first l₀ n last l g e h =
-    let z : length l₀ ≤ 448 * n = omega arith in
-    (g.written ∙ ap (λ (k : List ℕ). records_from start first n ++ k) (drop_of_length-le l₀ z) ∙ append-nil (records_from start first n) ∙ ap (records_from start first) e, g.arrived ∙ ap (reached_from start) e)

@@ -115,6 +115,7 @@ fn make_record(generator: &mut Generator, number: u32) -> Record
 }
 
 // By index: what a slice holds after `chunks_exact_mut` or `as_chunks_mut` is not known.
+#[tactic(auto, unfolding(crate::specs::Trial::records_from, crate::specs::Trial::reached_from))]
 fn make_records(start: u64, first: u64, records: &mut [u8]) -> u64
     requires { (length records.old % 448 ≡ 0) × (first + length records.old / 448 ≤ 2 ^ 32) }
     ensures { (records.new ≡ records_from start first (length records.old / 448)) × (result ≡ reached_from start (length records.old / 448)) }
@@ -141,6 +142,7 @@ fn trial_check(first: u64, bytes: usize) -> Result<(), Refusal>
 }
 
 // Fills the buffer with records from number `first` on, and says which number of the generator the last draw reached.
+#[tactic(auto, using(crate::specs::Laws::allowed))]
 pub fn trial_records(start: u64, first: u64, records: &mut [u8]) -> Result<u64, Refusal>
     ensures { TrialIs (trial start first records.old) (code result) records.new (reached_or start result) }
 {
@@ -149,6 +151,7 @@ pub fn trial_records(start: u64, first: u64, records: &mut [u8]) -> Result<u64, 
 }
 
 // What holds of all trial records, over the definition that the contract above cites.
+#[tactic(auto, using(crate::proofs::Proved::all_proved))]
 pub fn trial_theorems() -> u32
     ensures { TrialRecords }
 {

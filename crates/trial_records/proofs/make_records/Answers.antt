@@ -1,10 +1,7 @@
--- `trial_records::make_records` meets its contract: i records are made.
+-- A record more is made.
 use Rattle.std.proofs.Common.{ℕ, ◌+◌, ◌*◌, ◌-◌, List, ◌++◌, take, drop, ap, ◌∙◌, arith}
-use Rattle.trial_records.proofs.Made.{making_starts, making_more, making_ends}
+use Rattle.trial_records.proofs.Made.{making_more}
 use Rattle.trial_records.proofs.make_records.Goals as goal
-
-pub loop-i-init : goal.loop-i-init
-loop-i-init c = making_starts _ _ _
 
 pub loop-i-preserved : goal.loop-i-preserved
 loop-i-preserved c =
@@ -16,9 +13,3 @@ loop-i-preserved c =
     rw step.reached
     (making_more x.start x.first x.records.now l.i l.generator.last l.records _ k l.invariant (omega arith)
     (ap (λ (r : List ℕ). take at l.records ++ (r ++ drop k (drop at l.records))) (c.copy_from_slice.ensures.after ∙ step.made)))
-
-pub returns : goal.returns
-returns c =
-    let x = c.args in
-    let l = c.loop-i in
-    making_ends x.start x.first x.records.now l.i l.generator.last l.records l.invariant (omega arith) c.requires.0

@@ -1,4 +1,4 @@
--- `trial_records::make_records` meets its contract: i records are made.
+-- i records are made, and the rest of the buffer is as it was.
 use Rattle.trial_records.proofs.Made.{Making}
 use Rattle.trial_records.proofs.make_records.Given as goal
 

@@ -1,16 +1,10 @@
 -- `trial_records::trial_records` meets its contract.
 use Rattle.std.proofs.Common.{sym}
-use Rattle.trial_records.specs.Laws.{allowed}
 use Rattle.trial_records.proofs.Proved.{made_is, refused_is}
 use Rattle.trial_records.proofs.trial_records.Goals as goal
 
 pub returns-in_err-trial_check : goal.returns-in_err-trial_check
 returns-in_err-trial_check c = let x = c.args in refused_is x.start x.first x.records.now _ _ c.in_err-trial_check.ensures c.from_residual.ensures
-
-pub make_records-requires : goal.make_records-requires
-make_records-requires c =
-    let a = allowed c.args.first _ (sym c.in_ok-trial_check.ensures) in
-    (a.whole, a.within)
 
 pub returns : goal.returns
 returns c =
