@@ -6,7 +6,7 @@ ghost use Rattle.refusal.specs.Numbers.{code};
 ghost use Rattle.amount.specs.Biased.{bias, biased};
 ghost use Rattle.image.specs.Layout.{slot, holding};
 ghost use Rattle.storage.specs.Facts.{Good, Keys};
-ghost use Rattle.token.specs.Token.{transfer_of};
+ghost use Rattle.token.specs.Token.{transfer_number, transferred, transfer_of};
 ghost use Rattle.events.specs.Event.{event_buffer, put_event};
 ghost use Rattle.events.specs.Kinds.{deposited_event};
 ghost use Rattle.storage.specs.Setters.{record_balance};
@@ -91,6 +91,21 @@ impl Payment {
         }
     }
 
+    // 23.
+    fn transfer(self, img: &mut Image) -> Result<(), Refusal>
+        requires { Good img.old }
+        ensures value { code result ≡ transfer_number img.old self.token.address self.from.number 1 (biased self.amount) }
+        ensures img_after { img.new ≡ transferred img.old self.token.address self.from.number 1 (biased self.amount) }
+    {
+        token::transfer(
+            img,
+            self.token.address,
+            self.from,
+            token::VAULT,
+            self.amount,
+        )
+    }
+
     // 23; 12.
     #[tactic(auto, unfolding(fields::specs::Rules::chain, fields::specs::Rules::or_else, crate::specs::Deposit::receive_number), using(token::specs::Laws::transfer_done, refusal::specs::Laws::on_ok))]
     fn receive(self, img: &mut Image) -> Result<(), Refusal>
@@ -99,13 +114,7 @@ impl Payment {
         ensures img_after { OnOk result (img.new ≡ transfer_of img.old self.token.address self.from.number 1 (biased self.amount)) }
     {
         let expected = token::balance(img, self.token, token::VAULT) + self.amount;
-        token::transfer(
-            img,
-            self.token.address,
-            self.from,
-            token::VAULT,
-            self.amount,
-        )?;
+        self.transfer(img)?;
         expected_check(token::balance(img, self.token, token::VAULT), expected)
     }
 
@@ -127,13 +136,7 @@ impl Payment {
         ensures img_after { OnOk result (img.new ≡ transfer_of img.old self.token.address self.from.number 1 (biased self.amount)) }
     {
         let before = token::balance(img, self.token, token::VAULT);
-        token::transfer(
-            img,
-            self.token.address,
-            self.from,
-            token::VAULT,
-            self.amount,
-        )?;
+        self.transfer(img)?;
         let expected = checked_sum(before, self.amount)?;
         self.credited_check(img, expected)
     }
@@ -170,15 +173,7 @@ impl Payment {
         ensures { Does (report_outcome img.old self.token.address self.from.number self.sequence (biased self.amount)) result img.new events.new }
     {
         let expected = token::balance(img, self.token, token::VAULT) + self.amount;
-        if token::transfer(
-            img,
-            self.token.address,
-            self.from,
-            token::VAULT,
-            self.amount,
-        )
-        .is_err()
-        {
+        if self.transfer(img).is_err() {
             return Ok(outcome::announce(
                 events,
                 Event::VaultDepositFailed {
