@@ -1,5 +1,6 @@
 -- Lemmas for the functions' proofs.
 pub mod Steps
+pub mod Swap
 pub mod Whole
 pub mod Laws
 pub mod Moved

@@ -14,7 +14,7 @@ use Rattle.token.specs.Token.{arrives, debited, received, transfer_rules, transf
 use Rattle.token.specs.Laws.{debited_other, debited_from, transfer_to}
 use Rattle.storage.specs.Facts.{Good}
 use Rattle.storage.specs.Writes.{holding_range, credit_range}
-use Rattle.storage.specs.Setters.{set_credit, record_balance}
+use Rattle.storage.specs.Setters.{set_credit}
 use Rattle.image.specs.Layout.{slot, default_token, toll, kind, holding, credit, initialised}
 use Rattle.amount.specs.Biased.{bias}
 use Rattle.fields.specs.Rules.{pick, AllFail}
@@ -22,6 +22,7 @@ use Rattle.deposits.specs.Deposit.{deposit_holding, expected_holding, receive_nu
 use Rattle.deposits.specs.Report.{settled_report, failed_report, report_outcome}
 use Rattle.deposits.specs.TokenDeposit.{deposit_token_image}
 use Rattle.deposits.specs.Laws.{Funded}
+use Rattle.deposits.proofs.Swap.{same_image}
 use Rattle.deposits.proofs.Laws.{checks_passed, receive_free, received-all, credited_free}
 use Rattle.events.specs.Buffer.{first_byte}
 use Rattle.std.proofs.Math.Decide.{ℕ_discrete}
@@ -69,7 +70,7 @@ module _ (l : List ℕ) (t from n : ℕ) (g : Good l) (fh : from < 64) (p : bias
       all_of : (h d k n : ℕ) → bias < n → d + (n - k) ≡ h + n - bias → bias ≤ k → d ≤ h → k ≡ bias
       all_of h d k n p e s u = let w : n - bias ≤ n - k = omega arith in omega arith
 
--- ---- the transfer, then credit and snapshot, either first
+-- ---- the transfer, then credit and snapshot
 module _ (l : List ℕ) (t from seq n : ℕ) (g : Good l) (i : initialised l ≡ 1) (fh : from < 64) (p : bias < n) (z : receive_number l t from n ≡ 0) where
   pub deposit_moves : Moves t (expected_holding l t n) l (deposit_image l t from seq n)
   unfolding deposit_image
@@ -85,18 +86,10 @@ module _ (l : List ℕ) (t from seq n : ℕ) (g : Good l) (i : initialised l ≡
       rw (w.this ∙ due) at m
 
   pub token_moves : Moves t (expected_holding l t n) l (deposit_token_image l t from seq n)
-  unfolding deposit_token_image
   token_moves =
-      let (f, due) = receive_free l t from n refl z in
-      let (low, (high, (moving, _))) = f in
-      let y = transfer_of l t from 1 n in
-      let h = holding y (slot t) 1 in
-      let v = transfer_moves l t from 1 n g fh (omega arith) (omega arith) f in
-      let ky : 0 < kind y (slot t) = still_kind v high (omega arith) in
-      let s = snapshot_moves y t v.good (still_begun v i) low high ky seq h in
-      let w = add_credit_moves (record_balance y t seq h) t from n s.good (still_begun s (still_begun v i)) low high (still_kind s high ky) fh (omega arith) in
-      let m = moves_then v (moves_then s w) in
-      rw (s.this ∙ due) at m
+      let (f, _) = receive_free l t from n refl z in
+      let (_, (high, _)) = f in
+      rw (same_image l t from seq n high) deposit_moves
 
   pub deposit_booked : {m : List ℕ} → Moves t (expected_holding l t n) l m → (b : Book) → BookIs b l → BookIs (adds t (integer_of n) b) m
   deposit_booked v b is =

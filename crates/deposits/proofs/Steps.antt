@@ -9,15 +9,11 @@ use Rattle.std.proofs.Common.{Ordering, Less, Equal, Greater}
 use Rattle.std.specs.Int.{w128}
 use Rattle.std.specs.Ordering.{is_lt, is_ge, int_cmp}
 use mathlib.Core.Path.{◌≡◌, refl, ap, ◌∙◌}
-use Prim.Native.Nat.{ℕ, ◌+◌, ◌-◌, ◌≤◌, ◌<◌}
+use Prim.Native.Nat.{ℕ, ◌+◌, ◌-◌, ◌≤◌}
 use native.Mathlib.Omega.{arith}
 use borrow.Author.Tests.{lt-ltb, le-ltb}
-use Rattle.fields.specs.Frame.{under, over}
-use Rattle.storage.specs.Facts.{Keys}
-use Rattle.storage.specs.Kept.{only_record_balance}
-use Rattle.storage.specs.Regions.{same_keys}
-use Rattle.storage.specs.Setters.{set_credit, record_balance}
-use Rattle.image.specs.Layout.{slot, snapshot_at, credit}
+use Rattle.storage.specs.Setters.{set_credit}
+use Rattle.image.specs.Layout.{slot, credit}
 use Rattle.amount.specs.declared.Amount.{Amount}
 use Rattle.amount.specs.Biased.{bias, biased, in_range}
 use Rattle.amount.specs.Order.{less_is}
@@ -59,16 +55,14 @@ summed_number a n e h q = rw q (summed a n e h).0
 pub summed_value : {s : Option Amount} {r : Result Amount Refusal} (a n : ℕ) → s ≡ in_range (a + n) → bias ≤ n → r ≡ ok_or s ArithmeticOverflow → IfOk r (λ t. biased t ≡ a + n - bias)
 summed_value a n e h q = rw q (summed a n e h).1
 
--- a snapshot leaves the tracked keys
-pub snapshot_keys : (l : List ℕ) (t q n : ℕ) {y : List ℕ} → t < 64 → Keys l → y ≡ record_balance l t q n → Keys y
-snapshot_keys l t q n h k e =
-    let o = only_record_balance l t q n in
-    rw e (same_keys (under 88 8 (snapshot_at (slot t)) 24 o (omega arith)) (over 1504 2176 (snapshot_at (slot t)) 24 o (omega arith)) k)
+-- a credit is set to a sum that fits, and is left where there is none
+module _ (l : List ℕ) (t a n : ℕ) where
+  pub credit_fits : {o : ℕ} {v : Amount} {m : List ℕ} → m ≡ set_credit l t a (biased v) → o ≡ credit l (slot t) a → Some v ≡ in_range (o + n) → m ≡ add_credit l t a n
+  unfolding add_credit
+  credit_fits {o} p c e =
+      let (_, h) = (valued (o + n) e refl).0 in
+      rw (lt-ltb (credit l (slot t) a + n) (bias + bias + bias) (omega arith)) (p ∙ ap (set_credit l t a) (sum-biased (o + n) e refl ∙ ap (λ (k : ℕ). k + n - bias) c))
 
-pub credit-fits : (l : List ℕ) (t a n : ℕ) → credit l (slot t) a + n < bias + bias + bias → add_credit l t a n ≡ set_credit l t a (credit l (slot t) a + n - bias)
-unfolding add_credit
-credit-fits l t a n h = rw (lt-ltb (credit l (slot t) a + n) (bias + bias + bias) h)
-
-pub credit-kept : (l : List ℕ) (t a n : ℕ) → bias + bias + bias ≤ credit l (slot t) a + n → add_credit l t a n ≡ l
-unfolding add_credit
-credit-kept l t a n h = rw (le-ltb (credit l (slot t) a + n) (bias + bias + bias) h)
+  pub credit_kept : {o : ℕ} {s : Option Amount} → o ≡ credit l (slot t) a → s ≡ in_range (o + n) → s ≡ None → bias ≤ n → l ≡ add_credit l t a n
+  unfolding add_credit
+  credit_kept {o} c e f h = let g = over_high (o + n) e f (omega arith) in rw (le-ltb (credit l (slot t) a + n) (bias + bias + bias) (omega arith)) refl

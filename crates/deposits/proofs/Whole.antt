@@ -1,7 +1,7 @@
 -- Whole deposits, from what their parts say.
 use Rattle.std.specs.Prelude.{Result, Ok}
 use mathlib.Core.Path.{◌≡◌, refl, sym, ◌∙◌}
-use mathlib.Core.List.{List, [], ◌∷◌}
+use mathlib.Core.List.{List}
 use Prim.Native.Nat.{ℕ, ◌≤◌, ◌<◌}
 use native.Mathlib.Nat.{add-zero}
 use native.Mathlib.Omega.{arith}
@@ -11,7 +11,7 @@ use Rattle.outcome.specs.declared.Done.{Done}
 use Rattle.outcome.specs.Outcome.{Does, accepted, Announced, announced}
 use Rattle.outcome.specs.Checked.{checks_pass}
 use Rattle.events.specs.Kinds.{token_deposited_event, vault_deposit_failed_event}
-use Rattle.events.specs.Event.{EventFields, put_event, event_buffer}
+use Rattle.events.specs.Event.{put_event}
 use Rattle.events.specs.Buffer.{appended}
 use Rattle.fields.specs.Rules.{AllFail}
 use Rattle.token.specs.Token.{transfer_rules, transfer_number, transfer_of, transferred}
@@ -37,18 +37,15 @@ module _ (l : List ℕ) (t from n : ℕ) {k : ℕ} {y : List ℕ} (g : Good l) (
   pub token_keys : k ≡ receive_token_number l t from n → Keys y
   token_keys e = moved_keys l t from n g fh (omega arith) (receive_free l t from n refl (receive_token_free l t from n e z)).0 q
 
--- the first event
-pub written_one : {old new : List ℕ} (e : EventFields) → old ≡ event_buffer [] → new ≡ put_event old 0 e → new ≡ event_buffer (e ∷ [])
-written_one e b p = appended [] 0 b refl p refl (omega arith)
-
--- ---- operation 3: the checks of gross and fee passed; m and v are image and events after `deposit` of the net
-module _ (l : List ℕ) (caller signers seq gross fee : ℕ) {m v : List ℕ} (z : 0 ≡ gross_number gross fee) where
-  pub net-deposited : {b d : Done} {w : List ℕ} → Does (deposit_outcome l caller signers seq (net_of gross fee)) (Ok b) m v → w ≡ put_event v 1 (token_deposited_event caller gross fee (net_of gross fee))
-      → (biased d.value ≡ bias) × (d.events ≡ 2) → Does (deposit_with_fee_outcome l caller signers seq gross fee) (Ok d) m w
-  unfolding deposit_with_fee_outcome deposit_outcome
-  net-deposited b q r =
-      let s = sym b.numbered in
-      checks_pass _ _ z (accepted s (r.0 ∙ sym (add-zero bias)) r.1 (b.changed s) (appended _ 1 (b.written s) refl q refl (omega arith)))
+-- ---- operation 3: the checks of gross and fee passed; m and v are image and events after `deposit` of p, the net
+pub net_deposited : (l : List ℕ) (caller signers seq gross fee : ℕ) {p : ℕ} {b d : Done} {m v w : List ℕ} → 0 ≡ gross_number gross fee → p ≡ net_of gross fee → Does (deposit_outcome l caller signers seq p) (Ok b) m v
+    → w ≡ put_event v 1 (token_deposited_event caller gross fee p) → (biased d.value ≡ bias) × (d.events ≡ 2) → Does (deposit_with_fee_outcome l caller signers seq gross fee) (Ok d) m w
+unfolding deposit_with_fee_outcome deposit_outcome
+net_deposited l caller signers seq gross fee z e f q r =
+    let g : Does (deposit_outcome l caller signers seq (net_of gross fee)) _ _ _ = rw e at f in
+    let h = rw e at q in
+    let s = sym g.numbered in
+    checks_pass _ _ z (accepted s (r.0 ∙ sym (add-zero bias)) r.1 (g.changed s) (appended _ 1 (g.written s) refl h refl (omega arith)))
 
 -- ---- operation 9: a transfer that failed, and one that did not
 module _ (l : List ℕ) (t from seq n : ℕ) where

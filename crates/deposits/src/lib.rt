@@ -6,7 +6,7 @@ ghost use Rattle.refusal.specs.Numbers.{code};
 ghost use Rattle.amount.specs.Biased.{bias, biased};
 ghost use Rattle.image.specs.Layout.{slot, holding};
 ghost use Rattle.storage.specs.Facts.{Good, Keys};
-ghost use Rattle.token.specs.Token.{transfer_of};
+ghost use Rattle.token.specs.Token.{transfer_number, transferred, transfer_of};
 ghost use Rattle.events.specs.Event.{event_buffer, put_event};
 ghost use Rattle.events.specs.Kinds.{deposited_event};
 ghost use Rattle.storage.specs.Setters.{record_balance};
@@ -50,29 +50,6 @@ pub fn expected_check(held: Amount, expected: Amount) -> Result<(), Refusal>
     refusal::refuse_if(held != expected, Refusal::DepositTransferFailed)
 }
 
-// 23; 12.
-#[tactic(auto, unfolding(fields::specs::Rules::chain, fields::specs::Rules::or_else, crate::specs::Deposit::receive_number), using(token::specs::Laws::transfer_done, refusal::specs::Laws::on_ok))]
-fn receive(img: &mut Image, token: Token, from: Address, n: Amount) -> Result<(), Refusal>
-    requires { Good img.old × (bias ≤ biased n) × (holding img.old (slot token.address) 1 + biased n < bias + bias + bias) }
-    ensures value { code result ≡ receive_number img.old token.address from.number (biased n) }
-    ensures img_after { OnOk result (img.new ≡ transfer_of img.old token.address from.number 1 (biased n)) }
-{
-    let expected = token::balance(img, token, token::VAULT) + n;
-    token::transfer(img, token.address, from, token::VAULT, n)?;
-    expected_check(token::balance(img, token, token::VAULT), expected)
-}
-
-// A credit is added only if it fits.
-fn add_credit(img: &mut Image, token: Token, account: Address, n: Amount)
-    requires { Keys img.old × (bias ≤ biased n) }
-    ensures { img.new ≡ add_credit img.old token.address account.number (biased n) }
-{
-    let old = storage::get_token_account_balance(img, token, account);
-    if let Some(sum) = old.checked_add(n) {
-        storage::set_token_account_balance(img, token, account, sum);
-    }
-}
-
 // The event of a deposit, at place i of the buffer.
 pub fn put_deposited(events: &mut Buffer, i: usize, from: u8, amount: Amount, new_balance: Amount)
     requires { i < 16 }
@@ -89,34 +66,139 @@ pub fn put_deposited(events: &mut Buffer, i: usize, from: u8, amount: Amount, ne
     );
 }
 
-// What follows the transfer: credit, snapshot and event.
-#[tactic(auto, using(crate::proofs::Whole::written_one))]
-fn settle(
-    img: &mut Image,
+// What a deposit brings, once its amount is found above 0.
+#[derive(Clone, Copy)]
+struct Payment {
     token: Token,
     from: Address,
     sequence: u32,
-    n: Amount,
-    events: &mut Buffer,
-)
-    requires { Keys img.old × (bias ≤ biased n) × (events.old ≡ event_buffer []) }
-    ensures img_after { img.new ≡ record_balance (add_credit img.old token.address from.number (biased n)) token.address sequence (holding img.old (slot token.address) 1) }
-    ensures events_after { events.new ≡ event_buffer (deposited_event from.number (biased n) (holding img.old (slot token.address) 1) ∷ []) }
-{
-    let held = token::balance(img, token, token::VAULT);
-    add_credit(img, token, from, n);
-    storage::record_vault_balance(img, token, sequence, held);
-    put_deposited(events, 0, from.number, n, held);
+    amount: Amount,
+    ghost not_negative: { bias ≤ biased amount },
+}
+
+impl Payment {
+    fn new(head: Head, token: Token) -> Payment
+        requires { (head.caller < 64) × (bias ≤ biased head.amount) }
+        ensures { (result.token ≡ token) × (result.from.number ≡ head.caller) × (result.sequence ≡ head.sequence) × (result.amount ≡ head.amount) }
+    {
+        Payment {
+            token,
+            from: Address {
+                number: head.caller,
+            },
+            sequence: head.sequence,
+            amount: head.amount,
+        }
+    }
+
+    // 23.
+    fn transfer(self, img: &mut Image) -> Result<(), Refusal>
+        requires { Good img.old }
+        ensures value { code result ≡ transfer_number img.old self.token.address self.from.number 1 (biased self.amount) }
+        ensures img_after { img.new ≡ transferred img.old self.token.address self.from.number 1 (biased self.amount) }
+    {
+        token::transfer(
+            img,
+            self.token.address,
+            self.from,
+            token::VAULT,
+            self.amount,
+        )
+    }
+
+    // 23; 12.
+    #[tactic(auto, unfolding(fields::specs::Rules::chain, fields::specs::Rules::or_else, crate::specs::Deposit::receive_number), using(token::specs::Laws::transfer_done, refusal::specs::Laws::on_ok))]
+    fn receive(self, img: &mut Image) -> Result<(), Refusal>
+        requires { Good img.old × (holding img.old (slot self.token.address) 1 + biased self.amount < bias + bias + bias) }
+        ensures value { code result ≡ receive_number img.old self.token.address self.from.number (biased self.amount) }
+        ensures img_after { OnOk result (img.new ≡ transfer_of img.old self.token.address self.from.number 1 (biased self.amount)) }
+    {
+        let expected = token::balance(img, self.token, token::VAULT) + self.amount;
+        self.transfer(img)?;
+        expected_check(token::balance(img, self.token, token::VAULT), expected)
+    }
+
+    // 12; 7 of the credit, once the transfer is made.
+    fn credited_check(self, img: &Image, expected: Amount) -> Result<(), Refusal>
+        ensures { code result ≡ credited_number img.now self.token.address self.from.number (biased expected) (biased self.amount) }
+    {
+        expected_check(token::balance(img, self.token, token::VAULT), expected)?;
+        let credit = storage::get_token_account_balance(img, self.token, self.from);
+        checked_sum(credit, self.amount)?;
+        Ok(())
+    }
+
+    // 23; 7; 12; 7 of the credit.
+    #[tactic(auto, unfolding(fields::specs::Rules::chain, fields::specs::Rules::or_else, crate::specs::TokenDeposit::receive_token_number), using(token::specs::Laws::transfer_done, refusal::specs::Laws::on_ok))]
+    fn receive_and_credit_check(self, img: &mut Image) -> Result<(), Refusal>
+        requires { Good img.old }
+        ensures value { code result ≡ receive_token_number img.old self.token.address self.from.number (biased self.amount) }
+        ensures img_after { OnOk result (img.new ≡ transfer_of img.old self.token.address self.from.number 1 (biased self.amount)) }
+    {
+        let before = token::balance(img, self.token, token::VAULT);
+        self.transfer(img)?;
+        let expected = checked_sum(before, self.amount)?;
+        self.credited_check(img, expected)
+    }
+
+    // A credit is added only if it fits.
+    #[tactic(auto, using(crate::proofs::Steps::credit_kept))]
+    fn add_credit(self, img: &mut Image)
+        requires { Keys img.old }
+        ensures { img.new ≡ add_credit img.old self.token.address self.from.number (biased self.amount) }
+    {
+        let old = storage::get_token_account_balance(img, self.token, self.from);
+        if let Some(sum) = old.checked_add(self.amount) {
+            storage::set_token_account_balance(img, self.token, self.from, sum);
+        }
+    }
+
+    // What follows the transfer: credit, snapshot and event.
+    #[tactic(auto, using(events::specs::Buffer::written_one))]
+    fn settle(self, img: &mut Image, events: &mut Buffer)
+        requires { Keys img.old × (events.old ≡ event_buffer []) }
+        ensures img_after { img.new ≡ record_balance (add_credit img.old self.token.address self.from.number (biased self.amount)) self.token.address self.sequence (holding img.old (slot self.token.address) 1) }
+        ensures events_after { events.new ≡ event_buffer (deposited_event self.from.number (biased self.amount) (holding img.old (slot self.token.address) 1) ∷ []) }
+    {
+        let held = token::balance(img, self.token, token::VAULT);
+        self.add_credit(img);
+        storage::record_vault_balance(img, self.token, self.sequence, held);
+        put_deposited(events, 0, self.from.number, self.amount, held);
+    }
+
+    // A failed transfer is done with value 0; else 12; 7.
+    #[tactic(auto, using(crate::proofs::Whole::transfer_keys, refusal::specs::Laws::code_is_ok))]
+    fn report(self, img: &mut Image, events: &mut Buffer) -> Answer
+        requires { Good img.old × (holding img.old (slot self.token.address) 1 + biased self.amount < bias + bias + bias) × (events.old ≡ event_buffer []) }
+        ensures { Does (report_outcome img.old self.token.address self.from.number self.sequence (biased self.amount)) result img.new events.new }
+    {
+        let expected = token::balance(img, self.token, token::VAULT) + self.amount;
+        if self.transfer(img).is_err() {
+            return Ok(outcome::announce(
+                events,
+                Event::VaultDepositFailed {
+                    from: self.from.number,
+                    token: self.token.address,
+                    amount: self.amount,
+                },
+            ));
+        }
+        self.credited_check(img, expected)?;
+        self.settle(img, events);
+        Ok(Done {
+            value: Amount::from(1),
+            events: 1,
+        })
+    }
 }
 
 // 8; 1, 3, 22; 4, 5; 10; 7, 6; 11.
-#[tactic(auto, unfolding(fields::specs::Rules::chain, fields::specs::Rules::or_else, crate::specs::Deposit::deposit_checks), using(checks::specs::Passed::shared_free, checks::specs::Passed::deposit_amount_free))]
+#[tactic(auto, unfolding(fields::specs::Rules::chain, fields::specs::Rules::or_else, crate::specs::Deposit::deposit_checks), using(checks::specs::Passed::gate_refused, checks::specs::Passed::gate_passed, checks::specs::Passed::gate_free, checks::specs::Passed::deposit_amount_free))]
 fn deposit_checks(img: &Image, head: Head) -> Result<(), Refusal>
     requires { Good img.now }
     ensures { code result ≡ deposit_checks img.now head.caller head.signers head.sequence (biased head.amount) }
 {
-    checks::paused_check(img)?;
-    checks::shared_gate(img, head.caller, head.signers)?;
+    checks::open_gate(img, head.caller, head.signers)?;
     checks::deposit_amount_check(head.amount)?;
     funding_check(img, token::default_token(img), head.sequence, head.amount)
 }
@@ -127,12 +209,9 @@ pub fn deposit(img: &mut Image, head: Head, events: &mut Buffer) -> Answer
     ensures { Does (deposit_outcome img.old head.caller head.signers head.sequence (biased head.amount)) result img.new events.new }
 {
     deposit_checks(img, head)?;
-    let token = token::default_token(img);
-    let from = Address {
-        number: head.caller,
-    };
-    receive(img, token, from, head.amount)?;
-    settle(img, token, from, head.sequence, head.amount, events);
+    let payment = Payment::new(head, token::default_token(img));
+    payment.receive(img)?;
+    payment.settle(img, events);
     Ok(Done::new(1))
 }
 
@@ -183,72 +262,14 @@ pub fn deposit_with_fee(img: &mut Image, head: Head, events: &mut Buffer) -> Ans
     Ok(Done::new(2))
 }
 
-// 12; 7 of the credit, once the transfer is made.
-fn credited_check(
-    img: &Image,
-    token: Token,
-    from: Address,
-    expected: Amount,
-    n: Amount,
-) -> Result<(), Refusal>
-    requires { bias ≤ biased n }
-    ensures { code result ≡ credited_number img.now token.address from.number (biased expected) (biased n) }
-{
-    expected_check(token::balance(img, token, token::VAULT), expected)?;
-    let credit = storage::get_token_account_balance(img, token, from);
-    checked_sum(credit, n)?;
-    Ok(())
-}
-
-// A failed transfer is done with value 0; else 12; 7.
-#[tactic(auto, using(crate::proofs::Whole::transfer_keys, refusal::specs::Laws::code_is_ok))]
-fn report(
-    img: &mut Image,
-    token: Token,
-    from: Address,
-    sequence: u32,
-    n: Amount,
-    events: &mut Buffer,
-) -> Answer
-    requires { Good img.old × (bias ≤ biased n) × (holding img.old (slot token.address) 1 + biased n < bias + bias + bias) × (events.old ≡ event_buffer []) }
-    ensures { Does (report_outcome img.old token.address from.number sequence (biased n)) result img.new events.new }
-{
-    let expected = token::balance(img, token, token::VAULT) + n;
-    if token::transfer(img, token.address, from, token::VAULT, n).is_err() {
-        return Ok(outcome::announce(
-            events,
-            Event::VaultDepositFailed {
-                from: from.number,
-                token: token.address,
-                amount: n,
-            },
-        ));
-    }
-    credited_check(img, token, from, expected, n)?;
-    settle(img, token, from, sequence, n, events);
-    Ok(Done {
-        value: Amount::from(1),
-        events: 1,
-    })
-}
-
 #[tactic(auto, unfolding(fields::specs::Rules::chain, fields::specs::Rules::or_else, crate::specs::Report::failure_report_outcome), using(outcome::specs::Outcome::refused, crate::proofs::Laws::checks_passed))]
 pub fn deposit_with_failure_report(img: &mut Image, head: Head, events: &mut Buffer) -> Answer
     requires { Good img.old × (head.caller < 64) × (events.old ≡ event_buffer []) }
     ensures { Does (failure_report_outcome img.old head.caller head.signers head.sequence (biased head.amount)) result img.new events.new }
 {
     deposit_checks(img, head)?;
-    let from = Address {
-        number: head.caller,
-    };
-    report(
-        img,
-        token::default_token(img),
-        from,
-        head.sequence,
-        head.amount,
-        events,
-    )
+    let payment = Payment::new(head, token::default_token(img));
+    payment.report(img, events)
 }
 
 // With a cap: 7, 6.
@@ -280,60 +301,23 @@ fn token_funding_check(img: &Image, head: Head) -> Result<Token, Refusal>
 }
 
 // 8; 1, 3, 22; 4, 5; 10; 23; 11; 7, 6.
-#[tactic(auto, unfolding(fields::specs::Rules::chain, fields::specs::Rules::or_else, crate::specs::TokenDeposit::token_checks), using(checks::specs::Passed::deposit_amount_free))]
+#[tactic(auto, unfolding(fields::specs::Rules::chain, fields::specs::Rules::or_else, crate::specs::TokenDeposit::token_checks), using(checks::specs::Passed::gate_refused, checks::specs::Passed::gate_passed, checks::specs::Passed::deposit_amount_free))]
 fn token_checks(img: &Image, head: Head) -> Result<Token, Refusal>
     ensures number { code result ≡ token_checks img.now head.caller head.signers head.sequence head.token (biased head.amount) }
     ensures token { IfOk result (λ token. token.address ≡ head.token) }
 {
-    checks::paused_check(img)?;
-    checks::shared_gate(img, head.caller, head.signers)?;
+    checks::open_gate(img, head.caller, head.signers)?;
     checks::deposit_amount_check(head.amount)?;
     token_funding_check(img, head)
 }
 
-// 23; 7; 12; 7 of the credit.
-#[tactic(auto, unfolding(fields::specs::Rules::chain, fields::specs::Rules::or_else, crate::specs::TokenDeposit::receive_token_number), using(token::specs::Laws::transfer_done, refusal::specs::Laws::on_ok))]
-fn receive_token(img: &mut Image, token: Token, from: Address, n: Amount) -> Result<(), Refusal>
-    requires { Good img.old × (bias ≤ biased n) }
-    ensures value { code result ≡ receive_token_number img.old token.address from.number (biased n) }
-    ensures img_after { OnOk result (img.new ≡ transfer_of img.old token.address from.number 1 (biased n)) }
-{
-    let before = token::balance(img, token, token::VAULT);
-    token::transfer(img, token.address, from, token::VAULT, n)?;
-    let expected = checked_sum(before, n)?;
-    credited_check(img, token, from, expected, n)
-}
-
-// What follows the transfer: snapshot, credit and event.
-#[tactic(auto, using(crate::proofs::Whole::written_one, crate::proofs::Steps::snapshot_keys))]
-fn settle_token(
-    img: &mut Image,
-    token: Token,
-    from: Address,
-    sequence: u32,
-    n: Amount,
-    events: &mut Buffer,
-)
-    requires { Keys img.old × (bias ≤ biased n) × (events.old ≡ event_buffer []) }
-    ensures img_after { img.new ≡ add_credit (record_balance img.old token.address sequence (holding img.old (slot token.address) 1)) token.address from.number (biased n) }
-    ensures events_after { events.new ≡ event_buffer (deposited_event from.number (biased n) (holding img.old (slot token.address) 1) ∷ []) }
-{
-    let held = token::balance(img, token, token::VAULT);
-    storage::record_vault_balance(img, token, sequence, held);
-    add_credit(img, token, from, n);
-    put_deposited(events, 0, from.number, n, held);
-}
-
-#[tactic(auto, unfolding(fields::specs::Rules::chain, fields::specs::Rules::or_else, crate::specs::TokenDeposit::deposit_token_outcome, crate::specs::TokenDeposit::deposit_token_image), using(outcome::specs::Outcome::refused, outcome::specs::Outcome::accepted, crate::proofs::Laws::token_passed, crate::proofs::Whole::token_keys))]
+#[tactic(auto, unfolding(fields::specs::Rules::chain, fields::specs::Rules::or_else, crate::specs::TokenDeposit::deposit_token_outcome), using(outcome::specs::Outcome::refused, outcome::specs::Outcome::accepted, crate::proofs::Laws::token_passed, crate::proofs::Whole::token_keys, crate::proofs::Swap::token_image))]
 pub fn deposit_token(img: &mut Image, head: Head, events: &mut Buffer) -> Answer
     requires { Good img.old × (head.caller < 64) × (events.old ≡ event_buffer []) }
     ensures { Does (deposit_token_outcome img.old head.caller head.signers head.sequence head.token (biased head.amount)) result img.new events.new }
 {
-    let token = token_checks(img, head)?;
-    let from = Address {
-        number: head.caller,
-    };
-    receive_token(img, token, from, head.amount)?;
-    settle_token(img, token, from, head.sequence, head.amount, events);
+    let payment = Payment::new(head, token_checks(img, head)?);
+    payment.receive_and_credit_check(img)?;
+    payment.settle(img, events);
     Ok(Done::new(1))
 }

@@ -26,9 +26,7 @@ fn proposal_check(to: u8, time: u64) -> Result<u64, Refusal>
     ensures number { code result ≡ proposal_number to time }
     ensures executable_at { IfOk result (λ t. t ≡ time + timelock) }
 {
-    if to == 0 {
-        return Err(Refusal::InvalidParam);
-    }
+    refusal::refuse_if(to == 0, Refusal::InvalidParam)?;
     time.checked_add(TIMELOCK)
         .ok_or(Refusal::ArithmeticOverflow)
 }

@@ -131,26 +131,24 @@ fn pay_items(
 }
 
 // 8; 1, 3, 22; 4; 6; 6.
-#[tactic(auto, unfolding(fields::specs::Rules::chain, fields::specs::Rules::or_else), using(crate::proofs::Steps::one_checks, checks::specs::Passed::shared_free))]
+#[tactic(auto, unfolding(fields::specs::Rules::chain, fields::specs::Rules::or_else), using(crate::proofs::Steps::one_checks, checks::specs::Passed::gate_refused, checks::specs::Passed::gate_passed, checks::specs::Passed::gate_free))]
 fn withdraw_checks(img: &Image, head: Head) -> Result<(), Refusal>
     requires { Good img.now }
     ensures { code result ≡ withdraw_checks img.now head.caller head.signers (payout head.other (biased head.amount) ∷ []) }
 {
-    checks::paused_check(img)?;
-    checks::shared_gate(img, head.caller, head.signers)?;
+    checks::open_gate(img, head.caller, head.signers)?;
     checks::amount_check(head.amount)?;
     checks::cap_check(img, head.caller, head.amount)?;
     checks::funds_check(token::vault_balance(img), head.amount)
 }
 
 // 8; 1, 3, 22; 4; item by item 4, 7; 6; 6.
-#[tactic(auto, unfolding(fields::specs::Rules::chain, fields::specs::Rules::or_else, fields::specs::Rules::verdict), using(crate::proofs::Steps::item_checks, checks::specs::Passed::shared_free))]
+#[tactic(auto, unfolding(fields::specs::Rules::chain, fields::specs::Rules::or_else, fields::specs::Rules::verdict), using(crate::proofs::Steps::item_checks, checks::specs::Passed::gate_refused, checks::specs::Passed::gate_passed, checks::specs::Passed::gate_free))]
 fn batch_checks(img: &Image, listed: Items<'_>, head: Head) -> Result<(), Refusal>
     requires { Good img.now }
     ensures { code result ≡ withdraw_checks img.now head.caller head.signers (items listed.entry.count 0 listed.entry.rec.now) }
 {
-    checks::paused_check(img)?;
-    checks::shared_gate(img, head.caller, head.signers)?;
+    checks::open_gate(img, head.caller, head.signers)?;
     refusal::refuse_if(listed.count == 0, Refusal::InvalidAmount)?;
     let sum = add_items(listed)?;
     checks::cap_check(img, head.caller, sum)?;
@@ -198,14 +196,13 @@ fn settle(img: &mut Image, paid: Withdrawal, item: Item, events: &mut Buffer)
 }
 
 // 8; 1, 3, 22; 4; 6; 23; 6; 6.
-#[tactic(auto, unfolding(fields::specs::Rules::chain, fields::specs::Rules::or_else, crate::specs::Token::withdraw_token_checks))]
+#[tactic(auto, unfolding(fields::specs::Rules::chain, fields::specs::Rules::or_else, crate::specs::Token::withdraw_token_checks), using(checks::specs::Passed::gate_refused, checks::specs::Passed::gate_passed))]
 fn withdraw_token_checks(img: &Image, head: Head) -> Result<Token, Refusal>
     requires { head.caller < 64 }
     ensures number { code result ≡ withdraw_token_checks img.now head.token head.caller head.signers (biased head.amount) }
     ensures token { IfOk result (λ token. token.address ≡ head.token) }
 {
-    checks::paused_check(img)?;
-    checks::shared_gate(img, head.caller, head.signers)?;
+    checks::open_gate(img, head.caller, head.signers)?;
     checks::amount_check(head.amount)?;
     checks::cap_check(img, head.caller, head.amount)?;
     let token = token::presence_check(img, head.token)?;

@@ -1,5 +1,5 @@
 // Operations 10 to 14, 18 and 19: limits, operator and pause (lib.rs).
-#![tactic(auto, unfolding(fields::specs::Rules::chain, fields::specs::Rules::or_else, fields::specs::Rules::verdict, crate::specs::Settings::operator_limit_number, crate::specs::Settings::operator_limit_outcome, crate::specs::Settings::below_holding_number, crate::specs::Settings::limit_role_number, crate::specs::Settings::limit_set_number, crate::specs::Settings::limit_set_outcome, crate::specs::Settings::token_max_limit_number, crate::specs::Settings::token_max_limit_outcome, crate::specs::Settings::operator_set_outcome, crate::specs::Settings::operator_revoked_outcome, crate::specs::Settings::already_paused_number, crate::specs::Settings::pause_number, crate::specs::Settings::pause_outcome, crate::specs::Settings::not_paused_number, crate::specs::Settings::unpause_number, crate::specs::Settings::unpause_outcome), using(outcome::specs::Outcome::refused, outcome::specs::Outcome::announced, outcome::specs::Outcome::accepted))]
+#![tactic(auto, unfolding(fields::specs::Rules::chain, fields::specs::Rules::or_else, fields::specs::Rules::verdict, crate::specs::Settings::operator_limit_number, crate::specs::Settings::operator_limit_outcome, crate::specs::Settings::below_holding_number, crate::specs::Settings::limit_role_number, crate::specs::Settings::limit_set_number, crate::specs::Settings::limit_set_outcome, crate::specs::Settings::token_max_limit_number, crate::specs::Settings::token_max_limit_outcome, crate::specs::Settings::operator_set_outcome, crate::specs::Settings::operator_revoked_outcome, crate::specs::Settings::already_paused_number, crate::specs::Settings::pause_number, crate::specs::Settings::pause_outcome, crate::specs::Settings::not_paused_number, crate::specs::Settings::unpause_number, crate::specs::Settings::unpause_outcome), using(outcome::specs::Outcome::refused, outcome::specs::Outcome::announced, outcome::specs::Outcome::accepted, checks::specs::Passed::gate_refused, checks::specs::Passed::gate_passed))]
 
 ghost use Rattle.std.specs.Prelude.{◌≡◌, [], ◌<◌};
 ghost use Rattle.refusal.specs.Numbers.{code};
@@ -53,9 +53,10 @@ fn limit_role_check(img: &Image, caller: u8, n: Amount) -> Result<(), Refusal>
     ensures { code result ≡ limit_role_number img.now caller (biased n) }
 {
     if amount::read_amount(img, image::VAULT_LIMIT) < n {
-        return checks::owner_role_check(img, caller);
+        checks::owner_role_check(img, caller)
+    } else {
+        checks::insider_role_check(img, caller)
     }
-    checks::insider_role_check(img, caller)
 }
 
 // 8; 1; 4; 6; 3; 22.
@@ -94,8 +95,7 @@ pub fn set_token_max_limit(img: &mut Image, head: Head, events: &mut Buffer) -> 
     requires { Good img.old × (head.token < 64) × (events.old ≡ event_buffer []) }
     ensures { Does (token_max_limit_outcome img.old head.caller head.token head.signers (biased head.amount)) result img.new events.new }
 {
-    checks::paused_check(img)?;
-    checks::shared_gate(img, head.caller, head.signers)?;
+    checks::open_gate(img, head.caller, head.signers)?;
     checks::amount_check(head.amount)?;
     let address = Address { number: head.token };
     storage::set_token_max_limit(img, address, head.amount);

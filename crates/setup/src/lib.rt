@@ -35,7 +35,7 @@ fn approve_check(img: &Image, head: Head) -> Result<(), Refusal>
 {
     checks::owner_gate(img, head.caller, head.signers)?;
     if head.flag {
-        return valid_token_check(img, head.token);
+        valid_token_check(img, head.token)?;
     }
     Ok(())
 }
@@ -48,9 +48,10 @@ fn approved_set(img: &Image, head: Head) -> u64
     let set = fields::get64(img, image::APPROVED_SET);
     let token = u64::from(head.token);
     if head.flag {
-        return storage::with_bit(set, token);
+        storage::with_bit(set, token)
+    } else {
+        storage::without_bit(set, token)
     }
-    storage::without_bit(set, token)
 }
 
 pub fn approve_token(img: &mut Image, head: Head, events: &mut Buffer) -> Answer

@@ -1,5 +1,5 @@
 // The views, operations 24 to 28 (lib.rs).
-#![tactic(auto, unfolding(fields::specs::Rules::chain, fields::specs::Rules::or_else, fields::specs::Rules::verdict, crate::specs::Views::withdraw_cap_number, crate::specs::Views::effective_number, crate::specs::Views::account_outcome, crate::specs::Views::approved_outcome, crate::specs::Views::compliant_number, crate::specs::Views::compliant_outcome), using(outcome::specs::Outcome::view_refused, outcome::specs::Outcome::view_accepted, checks::specs::Passed::initialised_free, amount::specs::Order::biased_zero))]
+#![tactic(auto, unfolding(fields::specs::Rules::chain, fields::specs::Rules::or_else, fields::specs::Rules::verdict, crate::specs::Views::withdraw_cap_number, crate::specs::Views::effective_number, crate::specs::Views::account_outcome, crate::specs::Views::approved_outcome, crate::specs::Views::compliant_number, crate::specs::Views::compliant_outcome, checks::specs::Checks::insider_role_number), using(outcome::specs::Outcome::view_refused, outcome::specs::Outcome::view_accepted, checks::specs::Passed::initialised_free, amount::specs::Order::biased_zero))]
 
 ghost use Rattle.std.specs.Prelude.{◌≡◌, ◌+◌, ◌<◌};
 ghost use Rattle.refusal.specs.Numbers.{code};
@@ -31,9 +31,7 @@ fn withdraw_cap_check(img: &Image, caller: u8) -> Result<(), Refusal>
     if fields::get8(img, image::OWNER) == caller {
         return Ok(());
     }
-    if !checks::is_insider(img, caller) {
-        return Err(Refusal::NotAuthorized);
-    }
+    checks::insider_role_check(img, caller)?;
     refusal::refuse_if(
         !checks::has_flag(img, Flag::OperatorLimit),
         Refusal::LimitExceeded,
@@ -58,11 +56,7 @@ fn effective_value(img: &Image, caller: u8) -> Amount
     if fields::get8(img, image::OWNER) == caller {
         return held;
     }
-    let limit = amount::read_amount(img, image::OPERATOR_LIMIT);
-    if limit < held {
-        return limit;
-    }
-    held
+    held.min(amount::read_amount(img, image::OPERATOR_LIMIT))
 }
 
 #[tactic(auto, unfolding(crate::specs::Views::effective_outcome), using(outcome::specs::Outcome::view_refused, outcome::specs::Outcome::view_accepted, crate::proofs::Steps::effective_free))]

@@ -1,11 +1,11 @@
--- `deposits::report` meets its contract.
+-- `deposits::Payment::report` meets its contract.
 use Rattle.deposits.proofs.Whole.{reported, not_reported}
 use Rattle.deposits.specs.Deposit.{deposit_image}
 use Rattle.token.specs.Laws.{transfer_done}
 use Rattle.refusal.specs.Laws.{code_is_err, code_is_ok}
 use Rattle.outcome.specs.Outcome.{refused, accepted}
 use mathlib.Core.Path.{refl, sym, ◌∙◌}
-use Rattle.deposits.proofs.report.Goals as goal
+use Rattle.deposits.proofs.Payment.report.Goals as goal
 
 pub returns-then-is_err : goal.returns-then-is_err
 returns-then-is_err c =
