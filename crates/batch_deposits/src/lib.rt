@@ -124,7 +124,7 @@ fn collect(
     Ok(Done::new(items.count))
 }
 
-#[tactic(auto, unfolding(fields::specs::Rules::chain, fields::specs::Rules::or_else, crate::specs::Batch::batch_outcome, crate::specs::Batch::batch_checks), using(outcome::specs::Outcome::refused, crate::specs::Laws::open_free, deposits::proofs::Laws::funding_free))]
+#[tactic(auto, unfolding(fields::specs::Rules::chain, fields::specs::Rules::or_else, crate::specs::Batch::batch_outcome, crate::specs::Batch::batch_checks), using(outcome::specs::Outcome::refused, crate::specs::Laws::open_free, crate::specs::Laws::items_free, deposits::proofs::Laws::funding_free))]
 pub fn batch_deposit(img: &mut Image, items: Items<'_>, head: Head, events: &mut Buffer) -> Answer
     requires good { Good img.old × (events.old ≡ event_buffer []) }
     requires by_index { (j : ℕ) → j < items.count → item_address items.rec.now j < 64 }
