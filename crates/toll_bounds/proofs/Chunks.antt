@@ -1,15 +1,16 @@
 -- A list of amounts as chunks of sixteen bytes.
-use Rattle.std.specs.Prelude.{◌≡◌, refl, List, [], ◌∷◌, ◌++◌, Bool, true, ◌&&◌, ℕ, zero, suc, ◌+◌, ◌*◌, ◌<◌, ◌≤◌, ltb, take, drop, get_or}
-use Rattle.std.proofs.Common.{ap, ◌∙◌, add-zero, arith}
-use Rattle.std.proofs.Math.Bool.{and-true}
+use Rattle.std.specs.Prelude.{◌≡◌, refl, List, [], Bool, ◌&&◌, ℕ, zero, suc, ◌+◌, ◌*◌, ◌<◌, ◌≤◌, ltb, take, drop, get_or}
+use Rattle.std.proofs.Common.{sym, ap, ◌∙◌, length, add-zero, add-one, le_refl, arith}
 use Rattle.std.specs.List.{list_all}
 use Rattle.std.specs.Simd.{first_chunks}
 use Rattle.std.proofs.lemmas.List.{get_or-take, drop-drop}
-use Rattle.std.proofs.lemmas.List.Folds.{list_all-append}
+use Rattle.std.proofs.lemmas.List.Folds.{list_all_more}
+use Rattle.std.proofs.Math.Seq.{take-length}
 use Rattle.fields.specs.Bytes.{le, le-drop}
 use Rattle.fields.specs.Logic.{all, and_is}
 use Rattle.amount.specs.Biased.{bias, amount_at}
-use Rattle.toll_bounds.specs.Bounds.{amount_in, are_above}
+use Rattle.toll_bounds.specs.Bounds.{amount_count, amount_in, are_above}
+use Rattle.toll_bounds.specs.Parts.{AmountsOf}
 
 le-take : (n k : ℕ) (l : List ℕ) (at : ℕ) → at + n ≤ k → le n (take k l) at ≡ le n l at
 unfolding le
@@ -32,20 +33,15 @@ chunk_at (suc n) l (suc i) d h = chunk_at n (drop 16 l) i d (omega arith) ∙ ap
 pub chunk_amount : (l : List ℕ) (i : ℕ) {n : ℕ} {chunks : List (List ℕ)} → chunks ≡ first_chunks 16 n l → i < n → amount_at (get_or chunks i []) 0 ≡ amount_in l i
 chunk_amount l i {n} e h = rw (e, chunk_at n l i [] h) (taken l (16 * i))
 
--- one chunk more
-chunks_more : (n : ℕ) (l : List ℕ) → first_chunks 16 (suc n) l ≡ first_chunks 16 n l ++ (take 16 (drop (16 * n) l) ∷ [])
-chunks_more zero l = refl
-chunks_more (suc n) l = ap (λ (x : List (List ℕ)). take 16 l ∷ x) (rw (← next n l) (chunks_more n (drop 16 l)))
-
 -- all amounts are above 0
-last_above : (l : List ℕ) (at : ℕ) → ltb bias (amount_at (take 16 (drop at l)) 0) && true ≡ ltb bias (amount_at l at)
-last_above l at = rw (taken l at) (and-true (ltb bias (amount_at l at)))
+module _ (list : List ℕ) (amounts : List (List ℕ)) (w : AmountsOf list amounts) where
+  first_above : (n : ℕ) → n ≤ length amounts → list_all (λ x. ltb bias (amount_at x 0)) (take n amounts) ≡ are_above list n
+  unfolding are_above all
+  first_above zero h = refl
+  first_above (suc n) h =
+      let p : List ℕ → Bool = λ x. ltb bias (amount_at x 0) in
+      let more : list_all p (take (suc n) amounts) ≡ list_all p (take n amounts) && p (get_or amounts n []) = rw add-one at (list_all_more p amounts n [] (omega arith)) in
+      more ∙ (ap (λ (b : Bool). b && p (get_or amounts n [])) (first_above n (omega arith)) ∙ (ap (λ (k : ℕ). are_above list n && ltb bias k) (w.each n (omega arith)) ∙ and_is _ _))
 
-pub all_above : (n : ℕ) (l : List ℕ) → list_all (λ x. ltb bias (amount_at x 0)) (first_chunks 16 n l) ≡ are_above l n
-unfolding are_above all
-all_above zero l = refl
-all_above (suc n) l =
-    let p : List ℕ → Bool = λ x. ltb bias (amount_at x 0) in
-    let xs : List (List ℕ) = first_chunks 16 n l in
-    let ys : List (List ℕ) = take 16 (drop (16 * n) l) ∷ [] in
-    ap (list_all p) (chunks_more n l) ∙ (list_all-append p xs ys ∙ (ap (λ (b : Bool). b && list_all p ys) (all_above n l) ∙ (ap (λ (b : Bool). are_above l n && b) (last_above l (16 * n)) ∙ and_is _ _)))
+  pub all_above : list_all (λ x. ltb bias (amount_at x 0)) amounts ≡ are_above list (amount_count list)
+  all_above = ap (list_all (λ x. ltb bias (amount_at x 0))) (sym (take-length amounts)) ∙ (first_above (length amounts) (le_refl (length amounts)) ∙ ap (are_above list) w.count)

@@ -6,7 +6,7 @@ ghost use Rattle.refusal.specs.Numbers.{code};
 ghost use Rattle.amount.specs.Biased.{bias, biased};
 ghost use Rattle.image.specs.Good.{good_image};
 ghost use Rattle.toll_bounds.specs.Bounds.{amount_count, amount_in, list_number, tolls_number, token_number, request_number, amounts_number, toll_bounds, HoldingsAre};
-ghost use Rattle.toll_bounds.specs.Parts.{TallyIs};
+ghost use Rattle.toll_bounds.specs.Parts.{AmountsOf, TallyIs};
 ghost use Rattle.toll_bounds.specs.Theorems.{TollBounds};
 
 use amount::Amount;
@@ -58,26 +58,33 @@ fn request_check(img: &Image, t: u8, bytes: usize, tolls: Range) -> Result<Token
     token_check(img, t)
 }
 
+// Each amount of the list, in its sixteen bytes.
+#[tactic(auto, using(crate::proofs::Chunks::chunk_amount))]
+fn amounts_of(list: &[u8]) -> &[[u8; 16]]
+    ensures { AmountsOf list.now result.now }
+{
+    let (amounts, _) = list.as_chunks::<16>();
+    amounts
+}
+
 // 4.
 fn amounts_check(amounts: &[u8]) -> Result<(), Refusal>
     ensures { code result ≡ amounts_number amounts.now (amount_count amounts.now) }
 {
-    let (amounts, _) = amounts.as_chunks::<16>();
-    let are_above = amounts
+    let are_above = amounts_of(amounts)
         .iter()
         .all(|amount| amount::read_amount(amount, 0).is_positive());
     refusal::refuse_if(!are_above, Refusal::InvalidAmount)
 }
 
 // 7, or the holding at a toll.
-#[tactic(auto, using(amount::specs::Laws::biased_below, crate::specs::Laws::after_none, crate::specs::Laws::pass_none))]
+#[tactic(auto, using(amount::specs::Laws::biased_below, crate::specs::Laws::after_none, crate::specs::Laws::pass_none, crate::proofs::Sums::sum_next, crate::proofs::Sums::sum_passes))]
 fn holding_after(toll: Amount, held: Amount, amounts: &[u8]) -> Result<Amount, Refusal>
     requires { bias ≤ biased toll }
     ensures { TallyIs (biased toll) (biased held) (amount_in amounts.now) (amount_count amounts.now) result }
 {
-    let (amounts, _) = amounts.as_chunks::<16>();
     let mut sum = held;
-    for amount in amounts {
+    for amount in amounts_of(amounts) {
         let arrival = token::arrives(toll, amount::read_amount(amount, 0));
         sum = sum.checked_add(arrival).ok_or(Refusal::ArithmeticOverflow)?;
     }
