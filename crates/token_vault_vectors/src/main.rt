@@ -7,7 +7,7 @@ ghost use Rattle.std.specs.Fmt.{with_newline};
 ghost use Rattle.fields.specs.Logic.{◌and◌, ◌or◌};
 ghost use Rattle.journal.specs.Step.{vault};
 ghost use Rattle.token_vault.specs.Preview.{request_step};
-ghost use Rattle.vault_vectors.specs.Vectors.{PrintsStep, step_line, text_of};
+ghost use Rattle.vault_vectors.specs.Vectors.{PrintsStep, text_of};
 ghost use Rattle.token_vault_vectors.specs.declared.Stop.TheVariants.{Faulty, Unwritten};
 ghost use Rattle.token_vault_vectors.specs.Faults.{head_fault, call_head_fault, fault_text, fault_line};
 ghost use Rattle.token_vault_vectors.specs.Numbers.{number_of, code, fault_of, is_written};
