@@ -104,7 +104,6 @@ impl TryFrom<u8> for Kind {
 
 impl Kind {
     // Only an operation and its preview have a record and an event buffer.
-    #[tactic(auto, using(fields::specs::Logic::and_is, fields::specs::Logic::or_is))]
     fn has_needless(self, record_length: u16, events_length: u16) -> bool
         ensures { result ≡ (ltb 0 (byte_of self) and ltb (byte_of self) 5) and (ltb 0 record_length or ltb 0 events_length) }
     {
