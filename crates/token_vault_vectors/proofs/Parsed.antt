@@ -11,7 +11,7 @@ use Rattle.journal.specs.Step.{vault}
 use Rattle.token_vault.specs.Preview.{Request, request_step}
 use Rattle.vault_vectors.specs.declared.Transaction.{Transaction}
 use Rattle.vault_vectors.specs.declared.Transaction.TheVariants.{Begin, Commit, Rollback, Undo}
-use Rattle.vault_vectors.specs.Vectors.{PrintsStep, step_line}
+use Rattle.vault_vectors.specs.Vectors.{PrintsStep}
 use Rattle.token_vault_vectors.specs.declared.Fault.{Fault}
 use Rattle.token_vault_vectors.specs.declared.Stop.{Stop}
 use Rattle.token_vault_vectors.specs.declared.Stop.TheVariants.{Unwritten}
@@ -20,7 +20,7 @@ use Rattle.token_vault_vectors.specs.declared.heads.Kind.TheVariants.{Operation,
 use Rattle.token_vault_vectors.specs.declared.heads.CallHead.{CallHead}
 use Rattle.token_vault_vectors.specs.Faults.{state_fault, has_needless, call_head_rules, call_head_fault, record_fault, call_fault}
 use Rattle.token_vault_vectors.specs.Numbers.{number_of, code, fault_of, some_number}
-use Rattle.token_vault_vectors.specs.Replay.{byte_of, asked, asked_by, events_of, request_of, AnswersCall}
+use Rattle.token_vault_vectors.specs.Replay.{byte_of, asked, asked_by, events_of, request_of}
 use Rattle.token_vault_vectors.specs.Reading.{CallHeadOf, ReadsWhole, ReadsCall, ReadsState, TakesCall}
 
 -- ---- the kinds 1 to 4

@@ -7,7 +7,7 @@ ghost use Rattle.std.specs.Fmt.{with_newline};
 ghost use Rattle.fields.specs.Logic.{◌and◌, ◌or◌};
 ghost use Rattle.journal.specs.Step.{vault};
 ghost use Rattle.token_vault.specs.Preview.{request_step};
-ghost use Rattle.vault_vectors.specs.Vectors.{PrintsStep, step_line, text_of};
+ghost use Rattle.vault_vectors.specs.Vectors.{PrintsStep, text_of};
 ghost use Rattle.token_vault_vectors.specs.declared.Stop.TheVariants.{Faulty, Unwritten};
 ghost use Rattle.token_vault_vectors.specs.Faults.{head_fault, call_head_fault, fault_text, fault_line};
 ghost use Rattle.token_vault_vectors.specs.Numbers.{number_of, code, fault_of, is_written};
@@ -104,7 +104,6 @@ impl TryFrom<u8> for Kind {
 
 impl Kind {
     // Only an operation and its preview have a record and an event buffer.
-    #[tactic(auto, using(fields::specs::Logic::and_is, fields::specs::Logic::or_is))]
     fn has_needless(self, record_length: u16, events_length: u16) -> bool
         ensures { result ≡ (ltb 0 (byte_of self) and ltb (byte_of self) 5) and (ltb 0 record_length or ltb 0 events_length) }
     {

@@ -1,5 +1,5 @@
 -- Records one after another: in two parts, one of them, and what holds along the loop that makes them.
-use Rattle.std.proofs.Common.{◌≡◌, ℕ, suc, ◌+◌, ◌-◌, ◌*◌, ◌/◌, ◌%◌, ◌<◌, ◌≤◌, List, ◌++◌, length, take, drop, sym, refl, ap, ◌∙◌, append_assoc, append-nil, add-one, add-zero, arith, drop_of_length-le, drop-drop, take_at, drop_at}
+use Rattle.std.proofs.Common.{◌≡◌, ℕ, suc, ◌+◌, ◌-◌, ◌*◌, ◌<◌, List, ◌++◌, take, drop, sym, ap, ◌∙◌, append_assoc, add-one, add-zero, arith, drop-drop, take_at, drop_at}
 use Rattle.trial_records.specs.Generator.{steps}
 use Rattle.trial_records.specs.Trial.{trial_record, reached_from, records_from}
 use Rattle.trial_records.specs.Laws.{record_long, records_long, records_parts}

@@ -1,7 +1,6 @@
 -- The invariant: image and journal are those after the calls so far.
-use Rattle.std.proofs.Common.{◌≡◌, refl, rules, arith, Err}
+use Rattle.std.proofs.Common.{refl, rules, arith}
 use mathlib.Core.Logic.{inr}
-use Rattle.token_vault_vectors.specs.Numbers.{fault_of}
 use Rattle.token_vault_vectors.proofs.Replaying.{one_more, ended}
 use Rattle.token_vault_vectors.proofs.all_calls.Goals as goal
 

@@ -1,5 +1,5 @@
 -- The faults of a call's head from the test of what is needless on.
-use Rattle.std.proofs.Common.{◌≡◌, ◌≤◌, arith}
+use Rattle.std.proofs.Common.{◌≡◌, arith}
 use Rattle.fields.specs.Bytes.{le}
 use Rattle.token_vault_vectors.proofs.Parsed.{needless, record_long, events_long, well_formed}
 use Rattle.token_vault_vectors.proofs.heads.CallHead.parse.Goals as goal

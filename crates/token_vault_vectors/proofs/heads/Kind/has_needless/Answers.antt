@@ -1,6 +1,6 @@
 -- Only a transaction's kind is from 1 to 4.
 use Rattle.std.proofs.Common.{◌≡◌, Bool, ltb, ap₂, ◌∙◌}
-use Rattle.fields.specs.Logic.{◌and◌, ◌or◌, and_is, or_is}
+use Rattle.fields.specs.Logic.{◌and◌, and_is, or_is}
 use Rattle.token_vault_vectors.specs.Replay.{byte_of}
 use Rattle.token_vault_vectors.proofs.Parsed.{between, not_between}
 use Rattle.token_vault_vectors.proofs.heads.Kind.has_needless.Goals.{in-Transaction, in_default}
