@@ -1,17 +1,15 @@
 // Each kind of event, written to a place of the buffer: its 56 bytes in hexadecimal, and whether the rest of the buffer is zero.
 #![tactic(auto)]
 
-ghost use Rattle.std.specs.Prelude.{◌≡◌, ◌+◌, ◌<◌, ◌≤◌, length};
+ghost use Rattle.std.specs.Prelude.{◌<◌};
 
 use amount::Amount;
 use events::{Buffer, EVENT_LENGTH, Event, LENGTH};
 use refusal::Refusal;
 use std::io;
 
-fn print_bytes(rt: &impl Print, s: &[u8], at: usize, n: usize) -> io::Result<()>
-    requires { at + n ≤ length s.now }
-{
-    for byte in &s[at..at + n] {
+fn print_bytes(rt: &impl Print, bytes: &[u8]) -> io::Result<()> {
+    for byte in bytes {
         print!(rt; "{byte:02x}")?;
     }
     Ok(())
@@ -31,7 +29,8 @@ fn show(rt: &impl Print, i: usize, e: Event) -> io::Result<()>
     let mut buffer = [255u8; LENGTH];
     events::clear_events(&mut buffer);
     events::put_event(&mut buffer, i, e);
-    print_bytes(rt, &buffer, EVENT_LENGTH * i, EVENT_LENGTH)?;
+    let at = EVENT_LENGTH * i;
+    print_bytes(rt, &buffer[at..at + EVENT_LENGTH])?;
     if rest_is_zero(&buffer, i) {
         println!(rt; " rest zero")
     } else {
@@ -224,10 +223,7 @@ fn tokens(rt: &impl Print) -> io::Result<()> {
 
 // The number of a refusal, and 0 where there is none.
 fn check_length(rt: &impl Print, check: Result<(), Refusal>) -> io::Result<()> {
-    match check {
-        Ok(()) => println!(rt; "0"),
-        Err(refusal) => println!(rt; "{}", u8::from(refusal)),
-    }
+    println!(rt; "{}", refusal::number(&check))
 }
 
 fn main(rt: HostRuntime) -> io::Result<()> {
