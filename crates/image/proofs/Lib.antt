@@ -1,3 +1,2 @@
--- Tests of a token's kind, and what `all` and `any` answer over a range.
+-- Tests of a token's kind.
 pub mod KindTests
-pub mod Ranges

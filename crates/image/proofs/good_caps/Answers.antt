@@ -2,7 +2,7 @@
 use Rattle.std.proofs.Common.{rules}
 use borrow.Author.Tests.{tests}
 use Rattle.image.specs.Good.{good_cap}
-use Rattle.image.proofs.Ranges.{all_below}
+use Rattle.fields.specs.Ranges.{all_below}
 use Rattle.image.proofs.good_caps.Goals as goal
 
 pub returns : goal.returns

@@ -3,7 +3,7 @@ use Rattle.std.proofs.Common.{◌≡◌, refl, rules, ◌∙◌, ℕ, zero, suc,
 use borrow.Author.Tests.{tests}
 use Rattle.image.specs.Layout.{tracked_key}
 use Rattle.image.specs.Good.{tracked}
-use Rattle.image.proofs.Ranges.{some, any_below}
+use Rattle.fields.specs.Ranges.{some, any_below}
 use Rattle.storage.proofs.is_tracked.Goals as goal
 
 same_keys : (l : List ℕ) (k n : ℕ) → some (λ i. eqb (tracked_key l i) k) n ≡ tracked l n k
