@@ -147,9 +147,9 @@ pub extern "C" fn token_vault_toll_bounds(
         least: amount::read_amount(least_toll, 0),
         greatest: amount::read_amount(greatest_toll, 0),
     };
-    let answer = toll_bounds::toll_bounds(image, token, amounts, tolls);
-    let holdings = answer.unwrap_or(NO_HOLDINGS);
+    let bounds = toll_bounds::toll_bounds(image, token, amounts, tolls);
+    let holdings = bounds.unwrap_or(NO_HOLDINGS);
     amount::write_amount(least_holding, 0, holdings.least);
     amount::write_amount(greatest_holding, 0, holdings.greatest);
-    refusal::number(&answer)
+    refusal::number(&bounds)
 }

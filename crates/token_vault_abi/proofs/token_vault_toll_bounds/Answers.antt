@@ -7,5 +7,5 @@ use Rattle.token_vault_abi.proofs.token_vault_toll_bounds.Goals as goal
 
 pub returns : goal.returns
 returns c =
-    let e = rw (c.read_amount.ensures, c.read_amount-2.ensures) at c.toll_bounds-answer.ensures in
+    let e = rw (c.read_amount.ensures, c.read_amount-2.ensures) at c.toll_bounds-bounds.ensures in
     written_out _ _ biased_zero biased_zero _ _ _ e c.unwrap_or-holdings.ensures (omega arith, omega arith) (c.number.ensures ∙ e.numbered) c.write_amount.ensures c.write_amount-2.ensures
