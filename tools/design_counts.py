@@ -63,7 +63,7 @@ def shape(head, body):
 
 def parameters(head):
     """The parameters of a function's signature, each as (name, type)."""
-    signature = re.split(r"->|\brequires\b|\bensures\b", head)[0]
+    signature = re.split(r"\) ->|\brequires\b|\bensures\b", re.sub(r"(fn \w+)<.*?>\(", r"\1(", head, flags=re.S))[0]
     return re.findall(r"([\w»«]+): ([^,)]+)", signature)
 
 

@@ -4,16 +4,10 @@
 ghost use Rattle.std.specs.Prelude.{◌<◌};
 
 use amount::Amount;
+use answer_line::Hexadecimal;
 use events::{Buffer, EVENT_LENGTH, Event, LENGTH};
 use refusal::Refusal;
 use std::io;
-
-fn print_bytes(rt: &impl Print, bytes: &[u8]) -> io::Result<()> {
-    for byte in bytes {
-        print!(rt; "{byte:02x}")?;
-    }
-    Ok(())
-}
 
 fn rest_is_zero(buffer: &Buffer, i: usize) -> bool
     requires { i < 16 }
@@ -30,7 +24,7 @@ fn show(rt: &impl Print, i: usize, e: Event) -> io::Result<()>
     events::clear_events(&mut buffer);
     events::put_event(&mut buffer, i, e);
     let at = EVENT_LENGTH * i;
-    print_bytes(rt, &buffer[at..at + EVENT_LENGTH])?;
+    print!(rt; "{}", Hexadecimal(&buffer[at..at + EVENT_LENGTH]))?;
     if rest_is_zero(&buffer, i) {
         println!(rt; " rest zero")
     } else {

@@ -1,13 +1,7 @@
 // Writes numbers at the edges of their widths and of a slice of 16 bytes, reads them back, and prints what stands there.
 #![tactic(auto)]
 
-ghost use Rattle.std.specs.Prelude.{◌≡◌, length};
-
 use std::io;
-
-fn line(rt: &impl Print, n: u64) -> io::Result<()> {
-    println!(rt; "{n}")
-}
 
 fn truth(rt: &impl Print, b: bool) -> io::Result<()> {
     if b {
@@ -18,40 +12,32 @@ fn truth(rt: &impl Print, b: bool) -> io::Result<()> {
 }
 
 // The sixteen bytes as two numbers in hexadecimal, the upper half first.
-fn halves(rt: &impl Print, s: &[u8]) -> io::Result<()>
-    requires { length s.now ≡ 16 }
-{
+fn halves(rt: &impl Print, s: &[u8; 16]) -> io::Result<()> {
     print!(rt; "{:016x}", fields::get64(s, 8))?;
     println!(rt; "{:016x}", fields::get64(s, 0))
 }
 
-fn widths(rt: &impl Print, s: &mut [u8]) -> io::Result<()>
-    requires { length s.old ≡ 16 }
-{
+fn widths(rt: &impl Print, s: &mut [u8; 16]) -> io::Result<()> {
     fields::put8(s, 15, 255);
     fields::put16(s, 13, 65534);
     fields::put32(s, 9, 4294967293);
     fields::put64(s, 1, 18446744073709551612);
     halves(rt, s)?;
-    line(rt, u64::from(fields::get8(s, 15)))?;
-    line(rt, u64::from(fields::get16(s, 13)))?;
-    line(rt, u64::from(fields::get32(s, 9)))?;
-    line(rt, fields::get64(s, 1))?;
-    line(rt, u64::from(fields::get16(s, 0)))
+    println!(rt; "{}", fields::get8(s, 15))?;
+    println!(rt; "{}", fields::get16(s, 13))?;
+    println!(rt; "{}", fields::get32(s, 9))?;
+    println!(rt; "{}", fields::get64(s, 1))?;
+    println!(rt; "{}", fields::get16(s, 0))
 }
 
-fn slices(rt: &impl Print, s: &mut [u8], t: &mut [u8]) -> io::Result<()>
-    requires { (length s.old ≡ 16) × (length t.old ≡ 16) }
-{
-    t.copy_from_slice(s);
+fn slices(rt: &impl Print, s: &mut [u8; 16], t: &mut [u8; 16]) -> io::Result<()> {
+    *t = *s;
     truth(rt, fields::same_bytes(s, t))?;
     fields::put8(t, 0, 1);
     truth(rt, fields::same_bytes(s, t))
 }
 
-fn zeros(rt: &impl Print, t: &mut [u8]) -> io::Result<()>
-    requires { length t.old ≡ 16 }
-{
+fn zeros(rt: &impl Print, t: &mut [u8; 16]) -> io::Result<()> {
     t.fill(0);
     truth(rt, fields::are_zero(t))?;
     fields::put8(t, 7, 128);

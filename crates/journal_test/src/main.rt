@@ -9,8 +9,7 @@ use std::io;
 
 // The number that a call answers: 0, or that of its refusal.
 fn print_answer(rt: &impl Print, answer: Result<(), Refusal>) -> io::Result<()> {
-    let number = answer.err().map_or(0, u8::from);
-    println!(rt; "{number}")
+    println!(rt; "{}", refusal::number(&answer))
 }
 
 fn print_bytes(rt: &impl Print, bytes: &[u8]) -> io::Result<()> {
@@ -23,19 +22,13 @@ fn print_bytes(rt: &impl Print, bytes: &[u8]) -> io::Result<()> {
 fn check_journal(journal: &[u8]) -> Result<(), Refusal>
     ensures { IfOk result (λ _. good_journal 4 journal.now ≡ true) }
 {
-    if !journal::good_journal(journal, 4) {
-        return Err(Refusal::InvalidJournal);
-    }
-    Ok(())
+    refusal::refuse_if(!journal::good_journal(journal, 4), Refusal::InvalidJournal)
 }
 
 fn check_image(image: &[u8]) -> Result<(), Refusal>
     ensures { IfOk result (λ _. length image.now ≡ 64) }
 {
-    if image.len() != 64 {
-        return Err(Refusal::InvalidImage);
-    }
-    Ok(())
+    refusal::refuse_if(image.len() != 64, Refusal::InvalidImage)
 }
 
 fn begin(journal: &mut [u8]) -> Result<(), Refusal> {
@@ -156,39 +149,35 @@ fn damage(rt: &impl Print, at: usize, x: u8) -> io::Result<()> {
     print_answer(rt, begin(&mut journal))
 }
 
-fn damaged_heads(rt: &impl Print) -> io::Result<()> {
-    let places = [
-        (0, 2),
-        (0, 0),
-        (1, 1),
-        (2, 0),
-        (2, 2),
-        (3, 4),
-        (4, 1),
-        (4, 6),
-        (6, 1),
-        (23, 1),
-    ];
-    for (at, x) in places {
-        damage(rt, at, x)?;
-    }
-    Ok(())
-}
+// The head's bytes, and those of the entries.
+const DAMAGED_HEADS: [(usize, u8); 10] = [
+    (0, 2),
+    (0, 0),
+    (1, 1),
+    (2, 0),
+    (2, 2),
+    (3, 4),
+    (4, 1),
+    (4, 6),
+    (6, 1),
+    (23, 1),
+];
 
-fn damaged_entries(rt: &impl Print) -> io::Result<()> {
-    let places = [
-        (24, 1),
-        (24, 3),
-        (48, 4),
-        (26, 0),
-        (26, 2),
-        (50, 2),
-        (28, 1),
-        (32, 9),
-        (72, 1),
-        (143, 1),
-    ];
-    for (at, x) in places {
+const DAMAGED_ENTRIES: [(usize, u8); 10] = [
+    (24, 1),
+    (24, 3),
+    (48, 4),
+    (26, 0),
+    (26, 2),
+    (50, 2),
+    (28, 1),
+    (32, 9),
+    (72, 1),
+    (143, 1),
+];
+
+fn damage_each(rt: &impl Print, places: &[(usize, u8)]) -> io::Result<()> {
+    for &(at, x) in places {
         damage(rt, at, x)?;
     }
     Ok(())
@@ -215,7 +204,7 @@ fn main(rt: HostRuntime) -> io::Result<()> {
     roll(&rt, &mut image, &mut journal)?;
     close(&rt, &mut image, &mut journal)?;
     many(&rt, &mut image, &mut journal)?;
-    damaged_heads(&rt)?;
-    damaged_entries(&rt)?;
+    damage_each(&rt, &DAMAGED_HEADS)?;
+    damage_each(&rt, &DAMAGED_ENTRIES)?;
     lengths(&rt)
 }

@@ -1,8 +1,6 @@
 // Refusal 32: lengths, operations, the bounds of each field, and the fields that each operation reads; then the fields of one record.
 #![tactic(auto)]
 
-ghost use Rattle.std.specs.Prelude.{◌<◌};
-
 use amount::Amount;
 use record::{Head, Items, Operation, Record};
 use std::fmt::Display;
@@ -13,82 +11,69 @@ fn number<T: Display + Copy>(rt: &impl Print, n: T) -> io::Result<()> {
 }
 
 // The number of a record of zeros but for the operation and one byte.
-fn form_of(rec: &mut Record, operation: u8, at: usize, value: u8) -> u32
-    requires { at < 448 }
-{
-    rec.fill(0);
-    fields::put8(rec, 0, operation);
-    fields::put8(rec, at, value);
-    refusal::number(&record::parse(rec))
-}
-
 fn try_byte(
     rt: &impl Print,
     rec: &mut Record,
     operation: u8,
     at: usize,
     value: u8,
-) -> io::Result<()>
-    requires { at < 448 }
-{
-    number(rt, form_of(rec, operation, at, value))
-}
-
-// The number where item i of the counted ones has the address.
-fn try_item(
-    rt: &impl Print,
-    rec: &mut Record,
-    operation: u8,
-    count: u8,
-    i: usize,
-    address: u8,
-) -> io::Result<()>
-    requires { i < 16 }
-{
+) -> io::Result<()> {
     rec.fill(0);
-    fields::put8(rec, 0, operation);
-    fields::put8(rec, 5, count);
-    fields::put8(rec, 64 + 24 * i, address);
+    rec[0] = operation;
+    if let Some(byte) = rec.get_mut(at) {
+        *byte = value;
+    }
     number(rt, refusal::number(&record::parse(rec)))
 }
 
 fn operations(rt: &impl Print, rec: &mut Record) -> io::Result<()> {
-    try_byte(rt, rec, 0, 0, 0)?;
-    try_byte(rt, rec, 1, 0, 1)?;
-    try_byte(rt, rec, 30, 0, 30)?;
-    try_byte(rt, rec, 31, 0, 31)?;
-    try_byte(rt, rec, 255, 0, 255)?;
+    for operation in [0, 1, 30, 31, 255] {
+        try_byte(rt, rec, operation, 0, operation)?;
+    }
     println!(rt)
 }
 
 // The largest value that each field may have, and one more: addresses, then flag and count.
-fn addresses(rt: &impl Print, rec: &mut Record) -> io::Result<()> {
-    try_byte(rt, rec, 2, 1, 63)?;
-    try_byte(rt, rec, 2, 1, 64)?;
-    try_byte(rt, rec, 7, 2, 63)?;
-    try_byte(rt, rec, 7, 2, 64)?;
-    try_byte(rt, rec, 29, 3, 63)?;
-    try_byte(rt, rec, 29, 3, 64)?;
-    println!(rt)
-}
+const ADDRESSES: [(u8, usize, u8); 6] = [
+    (2, 1, 63),
+    (2, 1, 64),
+    (7, 2, 63),
+    (7, 2, 64),
+    (29, 3, 63),
+    (29, 3, 64),
+];
 
-fn flag_and_count(rt: &impl Print, rec: &mut Record) -> io::Result<()> {
-    try_byte(rt, rec, 20, 4, 1)?;
-    try_byte(rt, rec, 20, 4, 2)?;
-    try_byte(rt, rec, 6, 5, 16)?;
-    try_byte(rt, rec, 6, 5, 17)?;
+const FLAG_AND_COUNT: [(u8, usize, u8); 4] = [(20, 4, 1), (20, 4, 2), (6, 5, 16), (6, 5, 17)];
+
+fn try_bytes(rt: &impl Print, rec: &mut Record, tries: &[(u8, usize, u8)]) -> io::Result<()> {
+    for &(operation, at, value) in tries {
+        try_byte(rt, rec, operation, at, value)?;
+    }
     println!(rt)
 }
 
 // The last counted item, one past the count, and an operation that reads no items.
+const ITEMS: [(u8, u8, u8, u8); 7] = [
+    (4, 16, 15, 63),
+    (4, 16, 15, 64),
+    (6, 1, 0, 64),
+    (6, 15, 14, 64),
+    (6, 15, 15, 64),
+    (6, 0, 0, 64),
+    (5, 16, 0, 64),
+];
+
+// The number where item i of the counted ones has the address.
 fn items(rt: &impl Print, rec: &mut Record) -> io::Result<()> {
-    try_item(rt, rec, 4, 16, 15, 63)?;
-    try_item(rt, rec, 4, 16, 15, 64)?;
-    try_item(rt, rec, 6, 1, 0, 64)?;
-    try_item(rt, rec, 6, 15, 14, 64)?;
-    try_item(rt, rec, 6, 15, 15, 64)?;
-    try_item(rt, rec, 6, 0, 0, 64)?;
-    try_item(rt, rec, 5, 16, 0, 64)?;
+    for (operation, count, i, address) in ITEMS {
+        rec.fill(0);
+        rec[5] = count;
+        if let Some(byte) = rec.get_mut(64 + 24 * usize::from(i)) {
+            *byte = address;
+        }
+        rec[0] = operation;
+        number(rt, refusal::number(&record::parse(rec)))?;
+    }
     println!(rt)
 }
 
@@ -98,11 +83,9 @@ fn row(rt: &impl Print, rec: &mut Record, operation: u8) -> io::Result<()> {
     if let Ok(Operation::View(_)) = Operation::try_from(operation) {
         print!(rt; "view ")?;
     }
-    try_byte(rt, rec, operation, 1, 255)?;
-    try_byte(rt, rec, operation, 2, 255)?;
-    try_byte(rt, rec, operation, 3, 255)?;
-    try_byte(rt, rec, operation, 4, 255)?;
-    try_byte(rt, rec, operation, 5, 255)?;
+    for at in 1..6 {
+        try_byte(rt, rec, operation, at, 255)?;
+    }
     println!(rt)
 }
 
@@ -157,15 +140,11 @@ fn fill(rec: &mut Record) {
 }
 
 fn lengths(rt: &impl Print) -> io::Result<()> {
-    let mut short = [0u8; 447];
-    short[0] = 24;
-    number(rt, refusal::number(&record::parse(&short)))?;
-    let mut long = [0u8; 449];
-    long[0] = 24;
-    number(rt, refusal::number(&record::parse(&long)))?;
-    let mut whole = [0u8; 448];
-    whole[0] = 24;
-    number(rt, refusal::number(&record::parse(&whole)))?;
+    let mut bytes = [0u8; 449];
+    bytes[0] = 24;
+    for bytes in [&bytes[..447], &bytes, &bytes[..448]] {
+        number(rt, refusal::number(&record::parse(bytes)))?;
+    }
     println!(rt)
 }
 
@@ -173,8 +152,8 @@ fn main(rt: HostRuntime) -> io::Result<()> {
     lengths(&rt)?;
     let mut rec = [0u8; 448];
     operations(&rt, &mut rec)?;
-    addresses(&rt, &mut rec)?;
-    flag_and_count(&rt, &mut rec)?;
+    try_bytes(&rt, &mut rec, &ADDRESSES)?;
+    try_bytes(&rt, &mut rec, &FLAG_AND_COUNT)?;
     items(&rt, &mut rec)?;
     rows(&rt, &mut rec)?;
     fill(&mut rec);
