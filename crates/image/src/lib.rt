@@ -4,6 +4,7 @@
 mod address;
 mod flag;
 mod kind;
+mod options;
 mod places;
 
 ghost use Rattle.std.specs.Prelude.{◌≡◌, ◌+◌, ◌*◌, ◌/◌, ◌≤◌, ◌<◌, ltb, leb, eqb, length};
@@ -34,6 +35,7 @@ ghost use Rattle.image.specs.Good.{
 pub use address::{Address, Token, contains};
 pub use flag::{Flag, has_flag};
 pub use kind::Kind;
+pub use options::{Snapshot, cap, operator, operator_limit, pending_owner, vault_snapshot};
 pub use places::{
     APPROVED_SET, CAPPED_SET, CAPS, CREDITS, DEFAULT_TOKEN, DESTINATION, EXECUTABLE_AT, FLAGS,
     HOLDINGS, MIGRATION_PROPOSED_AT, OPERATOR, OPERATOR_LIMIT, OWNER, PENDING_OWNER, PROPOSED_AT,
