@@ -33,6 +33,7 @@ ghost use Rattle.image.specs.Good.{
 };
 
 pub use address::{Address, Token, contains};
+use amount::Amount;
 pub use flag::{Flag, has_flag};
 pub use kind::Kind;
 pub use options::{Snapshot, cap, operator, operator_limit, pending_owner, vault_snapshot};
@@ -80,12 +81,12 @@ fn above_at(s: &[u8], at: usize) -> bool
     amount::read_amount(s, at).is_positive()
 }
 
-#[tactic(auto, using(fields::specs::Logic::and_is, crate::specs::Laws::both_zero))]
+#[tactic(auto, using(crate::proofs::AmountTests::is_zero))]
 fn nothing_at(s: &[u8], at: usize) -> bool
     requires { at + 16 ≤ length s.now }
     ensures { result ≡ eqb (amount_at s.now at) bias }
 {
-    zero64_at(s, at) & zero64_at(s, at + 8)
+    amount::read_amount(s, at) == Amount::ZERO
 }
 
 fn not_negative_at(s: &[u8], at: usize) -> bool
