@@ -34,6 +34,7 @@ fn track_vault_key(img: &mut Image, k: u16)
     if is_tracked(img, k) {
         return;
     }
+    // At most 1,088, so that the cast loses nothing.
     let n = fields::get64(img, image::TRACKED_COUNT);
     fields::put16(img, image::TRACKED_KEYS + 2 * (n as usize), k);
     fields::put64(img, image::TRACKED_COUNT, n + 1);
@@ -55,7 +56,7 @@ pub fn set_token_account_balance(img: &mut Image, token: Token, account: Address
     track_vault_key(img, key);
 }
 
-// The set with bit k, below 64, set.
+// The set with bit k, below 64, set. Addresses and flags are numbered so, and share no type.
 #[tactic(auto, using(crate::specs::Bits::shifted_one, crate::specs::Bits::or_bit))]
 pub fn with_bit(set: u64, k: u64) -> u64
     requires { k < 64 }
@@ -73,7 +74,7 @@ pub fn without_bit(set: u64, k: u64) -> u64
     set & !(1 << k)
 }
 
-// This and `clear_flag` differ in the function that they call; a closure for it would be longer. Flags are below 64.
+// This and `clear_flag` differ in the function that they call, which a parameter would name as well. Flags are six bits, so that the cast loses none.
 pub fn set_flag(img: &mut Image, flag: Flag)
     requires { Good img.old }
     ensures { img.new ≡ put 2 img.old 0 (with_bit (flags img.old) (flag_bit flag)) }
