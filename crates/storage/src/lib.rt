@@ -74,7 +74,8 @@ pub fn without_bit(set: u64, k: u64) -> u64
     set & !(1 << k)
 }
 
-// This and `clear_flag` differ in the function that they call, which a parameter would name as well. Flags are six bits, so that the cast loses none.
+// This and `clear_flag` differ in the function that they call, which a parameter would name as well.
+// Flags are six bits, so that the cast loses none.
 pub fn set_flag(img: &mut Image, flag: Flag)
     requires { Good img.old }
     ensures { img.new ≡ put 2 img.old 0 (with_bit (flags img.old) (flag_bit flag)) }
