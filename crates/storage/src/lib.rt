@@ -56,7 +56,7 @@ pub fn set_token_account_balance(img: &mut Image, token: Token, account: Address
     track_vault_key(img, key);
 }
 
-// The set with bit k, below 64, set. Addresses and flags are numbered so, and share no type.
+// The set with bit k, below 64, set.
 #[tactic(auto, using(crate::specs::Bits::shifted_one, crate::specs::Bits::or_bit))]
 pub fn with_bit(set: u64, k: u64) -> u64
     requires { k < 64 }
