@@ -62,46 +62,43 @@ fn effective_value(img: &Image, caller: u8) -> Amount
 #[tactic(auto, unfolding(crate::specs::Views::effective_outcome), using(outcome::specs::Outcome::view_refused, outcome::specs::Outcome::view_accepted, crate::proofs::Steps::effective_free))]
 pub fn effective_withdraw_limit(img: &Image, head: Head) -> Answer
     requires { Good img.now }
-    ensures { Views (effective_outcome img.now head.caller) result }
+    ensures { Views (effective_outcome img.now head.caller.number) result }
 {
-    effective_check(img, head.caller)?;
-    Ok(Done::viewed(effective_value(img, head.caller)))
+    effective_check(img, head.caller.number)?;
+    Ok(Done::viewed(effective_value(img, head.caller.number)))
 }
 
 #[tactic(auto, using(crate::proofs::Steps::no_token, crate::proofs::Steps::token_credit, amount::specs::Order::biased_zero))]
-fn account_balance(img: &Image, t: u8, account: Address) -> Amount
-    requires { Good img.now × (t < 64) }
-    ensures { biased result ≡ bias + account_balance img.now t account.number }
+fn account_balance(img: &Image, address: Address, account: Address) -> Amount
+    requires { Good img.now }
+    ensures { biased result ≡ bias + account_balance img.now address.number account.number }
 {
-    let Some(token) = Token::new(t) else {
+    let Some(token) = Token::new(address.number) else {
         return Amount::ZERO;
     };
     storage::get_token_account_balance(img, token, account)
 }
 
 pub fn get_token_account_balance(img: &Image, head: Head) -> Answer
-    requires { Good img.now × (head.token < 64) × (head.caller < 64) }
-    ensures { Views (account_outcome img.now head.token head.caller) result }
+    requires { Good img.now }
+    ensures { Views (account_outcome img.now head.token.number head.caller.number) result }
 {
-    let account = Address {
-        number: head.caller,
-    };
-    Ok(Done::viewed(account_balance(img, head.token, account)))
+    Ok(Done::viewed(account_balance(img, head.token, head.caller)))
 }
 
 pub fn is_token_approved(img: &Image, head: Head) -> Answer
-    ensures { Views (approved_outcome img.now head.token) result }
+    ensures { Views (approved_outcome img.now head.token.number) result }
 {
-    let approved = checks::contains(fields::get64(img, image::APPROVED_SET), head.token);
+    let approved = checks::contains(fields::get64(img, image::APPROVED_SET), head.token.number);
     Ok(Done::viewed(Amount::from(u64::from(approved))))
 }
 
 pub fn is_token_compliant(img: &Image, head: Head) -> Answer
-    ensures { Views (compliant_outcome img.now head.token) result }
+    ensures { Views (compliant_outcome img.now head.token.number) result }
 {
-    if head.token == 0 {
+    if head.token.number == 0 {
         return Ok(Done::viewed(Amount::ZERO));
     }
-    token::presence_check(img, head.token)?;
+    token::presence_check(img, head.token.number)?;
     Ok(Done::viewed(Amount::from(1)))
 }
