@@ -1,2 +1,3 @@
--- Tests of a token's kind.
+-- Tests of a token's kind, and of an amount.
 pub mod KindTests
+pub mod AmountTests

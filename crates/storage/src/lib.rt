@@ -77,7 +77,7 @@ pub fn set_flag(img: &mut Image, flag: Flag)
     ensures { img.new ≡ put 2 img.old 0 (with_bit (flags img.old) (flag_bit flag)) }
 {
     let set = u64::from(fields::get16(img, image::FLAGS));
-    let k = u64::from(u16::from(flag));
+    let k = u64::from(u8::from(flag));
     fields::put16(img, image::FLAGS, with_bit(set, k) as u16);
 }
 
@@ -86,7 +86,7 @@ pub fn clear_flag(img: &mut Image, flag: Flag)
     ensures { img.new ≡ put 2 img.old 0 (without_bit (flags img.old) (flag_bit flag)) }
 {
     let set = u64::from(fields::get16(img, image::FLAGS));
-    let k = u64::from(u16::from(flag));
+    let k = u64::from(u8::from(flag));
     fields::put16(img, image::FLAGS, without_bit(set, k) as u16);
 }
 
@@ -125,15 +125,10 @@ pub fn check_vault_balance(
 ) -> Result<(), Refusal>
     ensures { code result ≡ snapshot_number img.now token.address sequence (biased balance) }
 {
-    let at = image::snapshot_at(token);
-    if fields::get32(img, at) != 1 {
-        return Ok(());
+    match image::vault_snapshot(img, token) {
+        Some(snapshot) if snapshot.sequence == sequence => {
+            refusal::refuse_if(snapshot.balance != balance, Refusal::VaultBalanceChanged)
+        }
+        _ => Ok(()),
     }
-    if fields::get32(img, at + 4) != sequence {
-        return Ok(());
-    }
-    if amount::read_amount(img, at + 8) != balance {
-        return Err(Refusal::VaultBalanceChanged);
-    }
-    Ok(())
 }
