@@ -14,7 +14,7 @@ returns-then-count-gt16 c = let l = c.args.self.rec.now in let e = byte_read l 5
 pub returns-else-count-gt16 : goal.returns-else-count-gt16
 unfolding items_exceed
 returns-else-count-gt16 c = let l = c.args.self.rec.now in let e = byte_read l 5 in
-    rw (c.within.ensures, e) (few (reads_items (operation_of l)) (item_count_of l) (items_within l (item_count_of l)) (cc) (omega (arith, e)))
+    rw (c.items_within.ensures, e) (few (reads_items (operation_of l)) (item_count_of l) (items_within l (item_count_of l)) (cc) (omega (arith, e)))
 
 pub returns-else-reads_items : goal.returns-else-reads_items
 unfolding items_exceed
