@@ -4,6 +4,7 @@
 mod address;
 mod flag;
 mod kind;
+mod options;
 mod places;
 
 ghost use Rattle.std.specs.Prelude.{◌≡◌, ◌+◌, ◌*◌, ◌/◌, ◌≤◌, ◌<◌, ltb, leb, eqb, length};
@@ -34,6 +35,7 @@ ghost use Rattle.image.specs.Good.{
 pub use address::{Address, Token, contains};
 pub use flag::{Flag, has_flag};
 pub use kind::Kind;
+pub use options::{Snapshot, cap, operator, operator_limit, pending_owner, vault_snapshot};
 pub use places::{
     APPROVED_SET, CAPPED_SET, CAPS, CREDITS, DEFAULT_TOKEN, DESTINATION, EXECUTABLE_AT, FLAGS,
     HOLDINGS, MIGRATION_PROPOSED_AT, OPERATOR, OPERATOR_LIMIT, OWNER, PENDING_OWNER, PROPOSED_AT,
@@ -180,18 +182,21 @@ fn good_head(s: &Image) -> bool
 }
 
 #[tactic(auto, unfolding(crate::specs::Flags::in_set, crate::specs::Good::good_cap))]
-fn good_cap(s: &Image, a: u8) -> bool
-    requires { a < 64 }
-    ensures { result ≡ good_cap s.now a }
+fn good_cap(s: &Image, a: Address) -> bool
+    ensures { result ≡ good_cap s.now a.number }
 {
     let set = fields::get64(s, CAPPED_SET);
-    above_where(s, CAPS + 16 * usize::from(a), contains(set, a))
+    above_where(s, cap_at(a), contains(set, a.number))
 }
 
 fn good_caps(s: &Image) -> bool
     ensures { result ≡ all (good_cap s.now) 64 }
 {
-    (0..64).all(|a| good_cap(s, a))
+    (0..64).all(
+        |number|
+            requires { number < 64 }
+        { good_cap(s, Address { number }) },
+    )
 }
 
 #[tactic(auto, using(crate::specs::Laws::each_tested, crate::specs::Laws::seen_none))]
@@ -225,11 +230,10 @@ fn good_keys(s: &Image) -> bool
     fresh_keys(s, m) & fields::are_zero(&s[TRACKED_KEYS + 2 * m..TRACKED_KEYS + 2176])
 }
 
-fn good_snapshot(s: &Image, t: usize) -> bool
-    requires { t < 16 }
-    ensures { result ≡ good_snapshot s.now t }
+fn good_snapshot(s: &Image, token: Token) -> bool
+    ensures { result ≡ good_snapshot s.now (slot token.address) }
 {
-    let at = SNAPSHOTS + 24 * t;
+    let at = snapshot_at(token);
     let present = fields::get32(s, at);
     let ledger = fields::get32(s, at + 4);
     let nothing = nothing_at(s, at + 8);
@@ -237,48 +241,51 @@ fn good_snapshot(s: &Image, t: usize) -> bool
 }
 
 #[tactic(auto, unfolding(crate::specs::Good::good_absent), using(fields::specs::Logic::and_is, fields::specs::Logic::and_assoc, fields::specs::Zeros::zeros_part))]
-fn good_absent(s: &Image, t: usize) -> bool
-    requires { t < 16 }
-    ensures { result ≡ good_absent s.now t }
+fn good_absent(s: &Image, token: Token) -> bool
+    ensures { result ≡ good_absent s.now (slot token.address) }
 {
-    let a = nothing_at(s, TOLLS + 24 * t);
-    let present = fields::get32(s, SNAPSHOTS + 24 * t);
+    let t = token.slot();
+    let a = nothing_at(s, toll_at(token));
+    let present = fields::get32(s, snapshot_at(token));
     let h = fields::are_zero(&s[HOLDINGS + 1024 * t..HOLDINGS + 1024 * (t + 1)]);
     let c = fields::are_zero(&s[CREDITS + 1024 * t..CREDITS + 1024 * (t + 1)]);
     a & (present == 0) & h & c
 }
 
 #[tactic(auto, unfolding(crate::specs::Good::good_present), using(fields::specs::Logic::and_is, fields::specs::Logic::and_assoc, crate::specs::Laws::not_negatives_part))]
-fn good_present(s: &Image, t: usize) -> bool
-    requires { t < 16 }
-    ensures { result ≡ good_present s.now t }
+fn good_present(s: &Image, token: Token) -> bool
+    ensures { result ≡ good_present s.now (slot token.address) }
 {
-    let a = not_negative_at(s, TOLLS + 24 * t);
+    let t = token.slot();
+    let a = not_negative_at(s, toll_at(token));
     let h = not_negatives(&s[HOLDINGS + 1024 * t..HOLDINGS + 1024 * (t + 1)]);
     let c = not_negatives(&s[CREDITS + 1024 * t..CREDITS + 1024 * (t + 1)]);
     a & h & c
 }
 
 #[tactic(auto, unfolding(crate::specs::Good::good_token), using(crate::specs::Laws::known_tests, crate::proofs::KindTests::is_absent))]
-fn good_token(s: &Image, t: usize) -> bool
-    requires { t < 16 }
-    ensures { result ≡ good_token s.now t }
+fn good_token(s: &Image, token: Token) -> bool
+    ensures { result ≡ good_token s.now (slot token.address) }
 {
-    let Ok(kind) = Kind::try_from(fields::get64(s, TOKENS + 24 * t)) else {
+    let Ok(kind) = Kind::try_from(fields::get64(s, token_at(token))) else {
         return false;
     };
-    let known = good_snapshot(s, t);
+    let known = good_snapshot(s, token);
     if kind == Kind::Absent {
-        known & good_absent(s, t)
+        known & good_absent(s, token)
     } else {
-        known & good_present(s, t)
+        known & good_present(s, token)
     }
 }
 
 fn good_tokens(s: &Image) -> bool
     ensures { result ≡ all (good_token s.now) 16 }
 {
-    (0..16).all(|t| good_token(s, t))
+    (0..16).all(
+        |t|
+            requires { t < 16 }
+        { good_token(s, Token { address: 48 + t }) },
+    )
 }
 
 // Of a good image no number is above 2.

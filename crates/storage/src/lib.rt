@@ -125,15 +125,10 @@ pub fn check_vault_balance(
 ) -> Result<(), Refusal>
     ensures { code result ≡ snapshot_number img.now token.address sequence (biased balance) }
 {
-    let at = image::snapshot_at(token);
-    if fields::get32(img, at) != 1 {
-        return Ok(());
+    match image::vault_snapshot(img, token) {
+        Some(snapshot) if snapshot.sequence == sequence => {
+            refusal::refuse_if(snapshot.balance != balance, Refusal::VaultBalanceChanged)
+        }
+        _ => Ok(()),
     }
-    if fields::get32(img, at + 4) != sequence {
-        return Ok(());
-    }
-    if amount::read_amount(img, at + 8) != balance {
-        return Err(Refusal::VaultBalanceChanged);
-    }
-    Ok(())
 }
