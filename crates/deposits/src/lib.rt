@@ -7,7 +7,7 @@ ghost use Rattle.amount.specs.Biased.{bias, biased};
 ghost use Rattle.image.specs.Layout.{slot, holding};
 ghost use Rattle.storage.specs.Facts.{Good, Keys};
 ghost use Rattle.token.specs.Token.{transfer_number, transferred, transfer_of};
-ghost use Rattle.events.specs.Event.{event_buffer, put_event};
+ghost use Rattle.events.specs.Event.{event_buffer};
 ghost use Rattle.events.specs.Kinds.{deposited_event};
 ghost use Rattle.storage.specs.Setters.{record_balance};
 ghost use Rattle.outcome.specs.Outcome.{Does};
@@ -48,22 +48,6 @@ pub fn expected_check(held: Amount, expected: Amount) -> Result<(), Refusal>
     ensures { code result ≡ expected_number (biased held) (biased expected) }
 {
     refusal::refuse_if(held != expected, Refusal::DepositTransferFailed)
-}
-
-// The event of a deposit, at place i of the buffer.
-pub fn put_deposited(events: &mut Buffer, i: usize, from: u8, amount: Amount, new_balance: Amount)
-    requires { i < 16 }
-    ensures { events.new ≡ put_event events.old i (deposited_event from (biased amount) (biased new_balance)) }
-{
-    events::put_event(
-        events,
-        i,
-        Event::Deposited {
-            from,
-            amount,
-            new_balance,
-        },
-    );
 }
 
 // What a deposit brings, once its amount is found above 0.
@@ -163,7 +147,15 @@ impl Payment {
         let held = token::balance(img, self.token, token::VAULT);
         self.add_credit(img);
         storage::record_vault_balance(img, self.token, self.sequence, held);
-        put_deposited(events, 0, self.from.number, self.amount, held);
+        events::put_event(
+            events,
+            0,
+            Event::Deposited {
+                from: self.from.number,
+                amount: self.amount,
+                new_balance: held,
+            },
+        );
     }
 
     // A failed transfer is done with value 0; else 12; 7.

@@ -54,6 +54,52 @@ impl Withdrawal {
             by_operator: self.by_operator,
         }
     }
+
+    // One payout, its event in place i.
+    fn pay(self, img: &mut Image, item: Item, i: usize, events: &mut Buffer) -> Result<(), Refusal>
+        requires { Good img.old × (i < 16) × (item.address < 64) × (bias ≤ biased item.amount) }
+        ensures { Pays (payout item.address (biased item.amount) ∷ []) self.token.address self.sequence self.caller (num self.by_operator) img.old events.old i (code result) img.new events.new }
+    {
+        let to = Address {
+            number: item.address,
+        };
+        send(img, self.token, to, item.amount)?;
+        let held = token::balance(img, self.token, token::VAULT);
+        storage::record_vault_balance(img, self.token, self.sequence, held);
+        events::put_event(events, i, self.event(item, held));
+        Ok(())
+    }
+
+    // Payout by payout, each item's event in its place.
+    fn pay_items(
+        self,
+        img: &mut Image,
+        listed: Items<'_>,
+        events: &mut Buffer,
+    ) -> Result<(), Refusal>
+        requires { Good img.old × (initialised img.old ≡ 1) × Payable (items listed.count 0 listed.rec.now) }
+        ensures { Pays (items listed.entry.count 0 listed.entry.rec.now) self.token.address self.sequence self.caller (num self.by_operator) img.old events.old 0 (code result) img.new events.new }
+    {
+        for i in 0..usize::from(listed.count) {
+            self.pay(img, listed.get(i), i, events)?;
+        }
+        Ok(())
+    }
+
+    // What follows the transfer: credit, snapshot and event.
+    fn settle(self, img: &mut Image, item: Item, events: &mut Buffer)
+        requires { Keys img.old × (self.caller < 64) × (bias ≤ biased item.amount) }
+        ensures img_after { img.new ≡ record_balance (take_credit img.old self.token.address self.caller (biased item.amount)) self.token.address self.sequence (holding img.old (slot self.token.address) 1) }
+        ensures events_after { events.new ≡ put_event events.old 0 (withdrawn_event self.caller item.address (biased item.amount) (holding img.old (slot self.token.address) 1) (num self.by_operator)) }
+    {
+        let held = token::balance(img, self.token, token::VAULT);
+        let account = Address {
+            number: self.caller,
+        };
+        take_credit(img, self.token, account, item.amount);
+        storage::record_vault_balance(img, self.token, self.sequence, held);
+        events::put_event(events, 0, self.event(item, held));
+    }
 }
 
 // The sum of what came before and an item's amount: 4; 7.
@@ -91,43 +137,6 @@ fn send(img: &mut Image, token: Token, to: Address, n: Amount) -> Result<(), Ref
         token::balance(img, token, token::VAULT) != held - n,
         Refusal::WithdrawTransferFailed,
     )
-}
-
-// One payout, its event in place i.
-fn pay(
-    img: &mut Image,
-    paid: Withdrawal,
-    item: Item,
-    i: usize,
-    events: &mut Buffer,
-) -> Result<(), Refusal>
-    requires { Good img.old × (i < 16) × (item.address < 64) × (bias ≤ biased item.amount) }
-    ensures { Pays (payout item.address (biased item.amount) ∷ []) paid.token.address paid.sequence paid.caller (num paid.by_operator) img.old events.old i (code result) img.new events.new }
-{
-    let to = Address {
-        number: item.address,
-    };
-    send(img, paid.token, to, item.amount)?;
-    let held = token::balance(img, paid.token, token::VAULT);
-    storage::record_vault_balance(img, paid.token, paid.sequence, held);
-    events::put_event(events, i, paid.event(item, held));
-    Ok(())
-}
-
-// Payout by payout, each item's event in its place.
-fn pay_items(
-    img: &mut Image,
-    listed: Items<'_>,
-    paid: Withdrawal,
-    events: &mut Buffer,
-) -> Result<(), Refusal>
-    requires { Good img.old × (initialised img.old ≡ 1) × Payable (items listed.count 0 listed.rec.now) }
-    ensures { Pays (items listed.entry.count 0 listed.entry.rec.now) paid.token.address paid.sequence paid.caller (num paid.by_operator) img.old events.old 0 (code result) img.new events.new }
-{
-    for i in 0..usize::from(listed.count) {
-        pay(img, paid, listed.get(i), i, events)?;
-    }
-    Ok(())
 }
 
 // 8; 1, 3, 22; 4; 6; 6.
@@ -180,21 +189,6 @@ fn take_credit(img: &mut Image, token: Token, account: Address, n: Amount)
     storage::set_token_account_balance(img, token, account, credit - n);
 }
 
-// What follows the transfer: credit, snapshot and event.
-fn settle(img: &mut Image, paid: Withdrawal, item: Item, events: &mut Buffer)
-    requires { Keys img.old × (paid.caller < 64) × (bias ≤ biased item.amount) }
-    ensures img_after { img.new ≡ record_balance (take_credit img.old paid.token.address paid.caller (biased item.amount)) paid.token.address paid.sequence (holding img.old (slot paid.token.address) 1) }
-    ensures events_after { events.new ≡ put_event events.old 0 (withdrawn_event paid.caller item.address (biased item.amount) (holding img.old (slot paid.token.address) 1) (num paid.by_operator)) }
-{
-    let held = token::balance(img, paid.token, token::VAULT);
-    let account = Address {
-        number: paid.caller,
-    };
-    take_credit(img, paid.token, account, item.amount);
-    storage::record_vault_balance(img, paid.token, paid.sequence, held);
-    events::put_event(events, 0, paid.event(item, held));
-}
-
 // 8; 1, 3, 22; 4; 6; 23; 6; 6.
 #[tactic(auto, unfolding(fields::specs::Rules::chain, fields::specs::Rules::or_else, crate::specs::Token::withdraw_token_checks), using(checks::specs::Passed::gate_refused, checks::specs::Passed::gate_passed))]
 fn withdraw_token_checks(img: &Image, head: Head) -> Result<Token, Refusal>
@@ -225,7 +219,7 @@ pub fn withdraw(img: &mut Image, head: Head, events: &mut Buffer) -> Answer
         address: head.other,
         amount: head.amount,
     };
-    pay(img, paid, item, 0, events)?;
+    paid.pay(img, item, 0, events)?;
     Ok(Done::new(1))
 }
 
@@ -237,7 +231,7 @@ pub fn withdraw_batch(img: &mut Image, listed: Items<'_>, head: Head, events: &m
 {
     batch_checks(img, listed, head)?;
     let paid = Withdrawal::new(img, head, token::default_token(img));
-    pay_items(img, listed, paid, events)?;
+    paid.pay_items(img, listed, events)?;
     Ok(Done::new(listed.count))
 }
 
@@ -254,6 +248,6 @@ pub fn withdraw_token(img: &mut Image, head: Head, events: &mut Buffer) -> Answe
         address: head.other,
         amount: head.amount,
     };
-    settle(img, paid, item, events);
+    paid.settle(img, item, events);
     Ok(Done::new(1))
 }

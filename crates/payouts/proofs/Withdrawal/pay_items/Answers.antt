@@ -1,11 +1,11 @@
--- `payouts::pay_items` meets its contract.
+-- `payouts::Withdrawal::pay_items` meets its contract.
 use Rattle.payouts.proofs.Loops.{pay_end, payee, amount, pay_stop, pay_turn}
 use Rattle.payouts.proofs.Steps.{passed_pays}
 use Rattle.refusal.specs.Laws.{some_number}
 use mathlib.Core.Path.{refl}
 use native.Mathlib.Omega.{arith}
 use Prim.Native.Nat.{◌+◌, ◌-◌}
-use Rattle.payouts.proofs.pay_items.Goals as goal
+use Rattle.payouts.proofs.Withdrawal.pay_items.Goals as goal
 
 pub pay-requires : goal.pay-requires
 pay-requires c =
