@@ -37,14 +37,8 @@ pub fn propose_owner(img: &mut Image, head: Head, events: &mut Buffer) -> Answer
 fn pending_check(img: &Image, caller: u8) -> Result<(), Refusal>
     ensures { code result ≡ pending_number img.now caller }
 {
-    refusal::refuse_if(
-        !checks::has_flag(img, Flag::PendingOwner),
-        Refusal::NoPendingOwner,
-    )?;
-    refusal::refuse_if(
-        fields::get8(img, image::PENDING_OWNER) != caller,
-        Refusal::NotPendingOwner,
-    )
+    let pending = image::pending_owner(img).ok_or(Refusal::NoPendingOwner)?;
+    refusal::refuse_if(pending != caller, Refusal::NotPendingOwner)
 }
 
 // 7, 17.
