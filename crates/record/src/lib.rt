@@ -197,6 +197,7 @@ fn exceeds(read: bool, value: u8, most: u8) -> bool
 }
 
 // A record of good form, and 32 of any other bytes.
+#[tactic(auto, using(crate::proofs::Form::other_length, crate::proofs::Decoded::decoded))]
 pub fn parse(rec: &[u8]) -> Result<Parsed<'_>, Refusal>
     ensures number { code result ≡ form_number rec.now }
     ensures parsed { IfOk result (λ parsed. parsed.rec.now ≡ rec.now) }
