@@ -1,5 +1,5 @@
 -- Laws of the tests of an image.
-use Rattle.std.specs.Prelude.{◌≡◌, refl, Bool, true, false, List, ℕ, zero, suc, ◌+◌, ◌-◌, ◌*◌, ◌/◌, ◌^◌, ◌≤◌, ◌<◌, eqb, leb, length, set, replicate, drop, take}
+use Rattle.std.specs.Prelude.{◌≡◌, refl, Bool, true, false, List, ℕ, zero, suc, ◌+◌, ◌-◌, ◌*◌, ◌/◌, ◌≤◌, ◌<◌, eqb, leb, length, set, replicate, drop, take}
 use Rattle.std.proofs.Math.Path.{sym}
 use Rattle.std.proofs.Common.{ap, ◌∙◌, add-zero, le_antisymm, add-one, get_or-set_same, get_or-set_other, drop-drop, length-drop, length-take-le}
 use native.Mathlib.Omega.{arith}

@@ -19,8 +19,10 @@ fn is_tracked(img: &Image, k: u16) -> bool
     requires { Keys img.now }
     ensures { result ≡ tracked img.now (tracked_count img.now) k }
 {
-    let n = fields::get64(img, image::TRACKED_COUNT) as usize;
-    (0..n).any(|i| fields::get16(img, image::TRACKED_KEYS + 2 * i) == k)
+    let Some(keys) = image::tracked_keys(img) else {
+        return false;
+    };
+    keys.iter().any(|key| u16::from_le_bytes(*key) == k)
 }
 
 // Keys are distinct and below 1,088, so that there is room for one that is not tracked yet.
@@ -49,8 +51,8 @@ pub fn set_token_account_balance(img: &mut Image, token: Token, account: Address
     ensures { img.new ≡ set_credit img.old token.address account.number (biased balance) }
 {
     amount::write_amount(img, image::credit_at(token, account), balance);
-    let key = 64 * token.slot() + usize::from(account.number);
-    track_vault_key(img, key as u16);
+    let key = 64 * u16::from(token.address - 48) + u16::from(account.number);
+    track_vault_key(img, key);
 }
 
 // The set with bit k, below 64, set.
