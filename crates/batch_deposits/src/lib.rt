@@ -16,7 +16,7 @@ ghost use Rattle.batch_deposits.specs.Batch.{count_number, open_number, items_nu
 
 use amount::Amount;
 use events::{Buffer, Event};
-use image::{Address, Image, Token};
+use image::{Image, Token};
 use outcome::{Answer, Done};
 use record::{Head, Item, Items};
 use refusal::Refusal;
@@ -40,13 +40,13 @@ fn open_check(img: &Image, count: u8) -> Result<(), Refusal>
 
 // 4, 5; 22.
 fn item_check(item: Item, signers: u64) -> Result<(), Refusal>
-    ensures { code result ≡ chain (deposit_amount_number (biased item.amount) ∷ signed_number signers item.address ∷ []) }
+    ensures { code result ≡ chain (deposit_amount_number (biased item.amount) ∷ signed_number signers item.address.number ∷ []) }
 {
     checks::deposit_amount_check(item.amount)?;
-    checks::signed_check(signers, item.address)
+    checks::signed_check(signers, item.address.number)
 }
 
-// Item by item 4, 5; 22. Sixteen amounts of at most 10 ^ 30 stay far below 2 ^ 127.
+// Item by item 4, 5; 22. Sixteen amounts of at most 10 ^ 30 stay far below 2 ^ 127. The one of `payouts` tests an item and each sum by other rules.
 fn add_items(items: Items<'_>, signers: u64) -> Result<Amount, Refusal>
     ensures number { code result ≡ items_number items.entry.count items.entry.rec.now signers 0 }
     ensures total { IfOk result (λ t. biased t ≡ bias + items_sum items.entry.count items.entry.rec.now 0) }
@@ -67,7 +67,6 @@ struct Batch<'a> {
     token: Token,
     sequence: u32,
     sum: Amount,
-    ghost senders: { (j : ℕ) → j < items.count → item_address items.rec.now j < 64 },
     ghost above: { (j : ℕ) → j < items.count → bias < item_amount items.rec.now j },
     ghost not_negative: { bias ≤ biased sum },
 }
@@ -82,15 +81,18 @@ impl Batch<'_> {
         ensures events_after { OnOk result (events.new ≡ put_event events.old i (item_event img.old self.entry.items.rec.now self.entry.token.address i)) }
     {
         let item = self.items.get(i);
-        let from = Address {
-            number: item.address,
-        };
-        token::transfer(img, self.token.address, from, token::VAULT, item.amount)?;
+        token::transfer(
+            img,
+            self.token.address,
+            item.address,
+            token::VAULT,
+            item.amount,
+        )?;
         events::put_event(
             events,
             i,
             Event::Deposited {
-                from: item.address,
+                from: item.address.number,
                 amount: item.amount,
                 new_balance: token::balance(img, self.token, token::VAULT),
             },
@@ -100,10 +102,11 @@ impl Batch<'_> {
 
     // All transfers, item by item.
     fn transfer_items(self, img: &mut Image, events: &mut Buffer) -> Result<(), Refusal>
-        requires { Good img.old × (events.old ≡ event_buffer []) }
+        requires { Good img.old }
         ensures value { code result ≡ transfers_number self.entry.items.count self.entry.items.rec.now self.entry.token.address 0 img.old }
         ensures img_after { OnOk result ((img.new ≡ transfers_image self.entry.items.count self.entry.items.rec.now self.entry.token.address 0 img.old) × (events.new ≡ event_buffer (transfers_events self.entry.items.count self.entry.items.rec.now self.entry.token.address 0 img.old))) }
     {
+        events::clear_events(events);
         for i in 0..usize::from(self.items.count) {
             self.transfer_item(img, i, events)?;
         }
@@ -113,7 +116,7 @@ impl Batch<'_> {
     // 23 item by item; 12 of the sum; then the snapshot.
     #[tactic(auto, unfolding(fields::specs::Rules::chain, fields::specs::Rules::or_else, crate::specs::Batch::collect_outcome), using(outcome::specs::Outcome::refused, outcome::specs::Outcome::accepted, crate::specs::Laws::events_long))]
     fn collect(self, img: &mut Image, events: &mut Buffer) -> Answer
-        requires { Good img.old × (events.old ≡ event_buffer []) × (holding img.old (slot self.token.address) 1 + biased self.sum < bias + bias + bias) }
+        requires { Good img.old × (holding img.old (slot self.token.address) 1 + biased self.sum < bias + bias + bias) }
         ensures { Does (collect_outcome img.old self.entry.items.rec.now self.entry.token.address self.entry.sequence self.entry.items.count (biased self.entry.sum)) result img.new events.new }
     {
         let expected = token::balance(img, self.token, token::VAULT) + self.sum;
@@ -127,8 +130,7 @@ impl Batch<'_> {
 
 #[tactic(auto, unfolding(fields::specs::Rules::chain, fields::specs::Rules::or_else, crate::specs::Batch::batch_outcome, crate::specs::Batch::batch_checks), using(outcome::specs::Outcome::refused, crate::specs::Laws::open_free, crate::specs::Laws::items_free, deposits::proofs::Laws::funding_free))]
 pub fn batch_deposit(img: &mut Image, items: Items<'_>, head: Head, events: &mut Buffer) -> Answer
-    requires good { Good img.old × (events.old ≡ event_buffer []) }
-    requires by_index { (j : ℕ) → j < items.count → item_address items.rec.now j < 64 }
+    requires { Good img.old }
     ensures { Does (batch_outcome img.old items.entry.rec.now head.signers head.sequence items.entry.count) result img.new events.new }
 {
     open_check(img, items.count)?;

@@ -13,7 +13,7 @@ pub loop-i-preserved : goal.loop-i-preserved
 loop-i-preserved c =
     let b = c.args.self in
     let y = c.in_ok-transfer_item.ensures in
-    goes_on _ _ _ _ _ _ _ c.loop-i.invariant (omega arith) y.value b.items.fit (b.senders c.loop-i.i (omega arith)) (b.above c.loop-i.i (omega arith)) refl y.img_after y.events_after
+    goes_on _ _ _ _ _ _ _ c.loop-i.invariant (omega arith) y.value b.items.fit (b.items.addressed c.loop-i.i (omega arith)) (b.above c.loop-i.i (omega arith)) refl y.img_after y.events_after
 
 pub returns : goal.returns
 returns c = let e = ends _ _ _ _ _ _ _ c.loop-i.invariant (omega arith) in record { value = e.0; img_after = (e.1, e.2) }
