@@ -87,7 +87,7 @@ fn migrate_holding(img: &mut Image, held: Amount) -> Result<(), Refusal>
     let to = Address {
         number: fields::get8(img, image::DESTINATION),
     };
-    token::transfer(img, t, token::VAULT, to, held)
+    token::transfer(img, usize::from(t), token::VAULT, to, held)
 }
 
 fn clear_migration(img: &mut Image)

@@ -29,7 +29,13 @@ pub fn outside_move(img: &mut Image, head: Head, events: &mut Buffer) -> Answer
     ensures { Does (outside_move_outcome img.old head.caller.number head.token.number head.other.number (biased head.amount)) result img.new events.new }
 {
     outside_move_check(head.caller.number, head.amount)?;
-    token::transfer(img, head.token.number, head.caller, head.other, head.amount)?;
+    token::transfer(
+        img,
+        usize::from(head.token.number),
+        head.caller,
+        head.other,
+        head.amount,
+    )?;
     Ok(outcome::announce_nothing(events))
 }
 
@@ -37,7 +43,9 @@ pub fn freeze(img: &mut Image, head: Head, events: &mut Buffer) -> Answer
     requires { Good img.old }
     ensures { Does (freeze_outcome img.old head.token.number (num head.flag)) result img.new events.new }
 {
-    let token = token::presence_check(img, head.token.number).map_err(|_| Refusal::InvalidParam)?;
+    let token = token::presence_check(img, usize::from(head.token.number)).map_err(
+        |_| Refusal::InvalidParam,
+    )?;
     let kind = if head.flag {
         Kind::Frozen
     } else {

@@ -24,7 +24,7 @@ fn valid_token_check(img: &Image, t: u8) -> Result<(), Refusal>
     ensures { code result ≡ valid_token_number img.now t }
 {
     refusal::refuse_if(t == 0, Refusal::InvalidToken)?;
-    token::presence_check(img, t)?;
+    token::presence_check(img, usize::from(t))?;
     Ok(())
 }
 

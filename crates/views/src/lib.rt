@@ -70,6 +70,6 @@ pub fn is_token_compliant(img: &Image, head: Head) -> Answer
     if head.token.number == 0 {
         return Ok(Done::viewed(Amount::ZERO));
     }
-    token::presence_check(img, head.token.number)?;
+    token::presence_check(img, usize::from(head.token.number))?;
     Ok(Done::viewed(Amount::from(1)))
 }
