@@ -7,7 +7,7 @@ mod kind;
 mod options;
 mod places;
 
-ghost use Rattle.std.specs.Prelude.{List, ℕ, MatchOption, ◌≡◌, ◌+◌, ◌*◌, ◌/◌, ◌≤◌, ◌<◌, ltb, leb, eqb, length};
+ghost use Rattle.std.specs.Prelude.{List, ℕ, MatchOption, IfSome, ◌≡◌, ◌+◌, ◌*◌, ◌/◌, ◌≤◌, ◌<◌, ltb, leb, eqb, length};
 ghost use Rattle.fields.specs.Bytes.{le, put};
 ghost use Rattle.amount.specs.Biased.{amount_at, bias, num};
 ghost use Rattle.image.specs.Kinds.{kind_of, kind_number};
@@ -139,6 +139,7 @@ fn good_defaults(s: &Image) -> bool
     above_at(s, VAULT_LIMIT) & (fields::get64(s, TIME_TO_LIVE) > 0) & is_present
 }
 
+// `good_migration` tests other fields in other widths, of which each is a name of the format.
 fn good_pending(s: &Image) -> bool
     ensures { result ≡ good_pending s.now }
 {
@@ -191,6 +192,7 @@ fn good_cap(s: &Image, a: Address) -> bool
     above_where(s, cap_at(a), contains(set, a.number))
 }
 
+// `good_tokens` is the same of another test and number; a function of those two would be `all`.
 fn good_caps(s: &Image) -> bool
     ensures { result ≡ all (good_cap s.now) 64 }
 {
@@ -202,9 +204,9 @@ fn good_caps(s: &Image) -> bool
 }
 
 // The tracked keys, two bytes each, where there are no more of them than an image has room for.
-#[tactic(auto, using(crate::proofs::KeyChunks::key_chunk))]
 pub fn tracked_keys(img: &Image) -> Option<&[[u8; 2]]>
-    ensures { MatchOption result (1088 < tracked_count img.now) (λ keys. (tracked_count img.now ≤ 1088) × (length keys.now ≡ tracked_count img.now) × AreTracked img.now keys.now) }
+    ensures count { MatchOption result (1088 < tracked_count img.now) (λ keys. (tracked_count img.now ≤ 1088) × (length keys.now ≡ tracked_count img.now)) }
+    ensures keys { IfSome result (λ keys. AreTracked img.now keys.now) }
 {
     let n = usize::try_from(fields::get64(img, TRACKED_COUNT)).ok()?;
     if n > 1088 {
@@ -222,10 +224,7 @@ fn fresh_keys(keys: &[[u8; 2]]) -> bool
     let mut seen = [false; 1088];
     for key in keys {
         let k = usize::from(u16::from_le_bytes(*key));
-        if k >= 1088 {
-            return false;
-        }
-        if seen[k] {
+        if k >= 1088 || seen[k] {
             return false;
         }
         seen[k] = true;

@@ -5,19 +5,17 @@ use Rattle.image.specs.Layout.{tracked_key}
 use Rattle.image.specs.Good.{fresh_key}
 use Rattle.image.specs.Laws.{seen_step, stale_far, stale_seen, fresh_new}
 use Rattle.image.proofs.fresh_keys.Goals as goal
+use Rattle.image.proofs.fresh_keys.Goals.{then-k-ge1088-via-then-k-ge1088, then-k-ge1088-via-else-k-ge1088+then-seen-k}
 
 pub returns-then-k-ge1088 : goal.returns-then-k-ge1088
 returns-then-k-ge1088 c s h =
-    let i = c.loop-key.key-index in
-    let k : c.from-k.result ≡ tracked_key s i = c.from-k.ensures ∙ c.from_le_bytes.ensures ∙ h i c.loop-key-test.true in
-    all_stop (fresh_key s) i (length c.args.keys.now) c.loop-key-test.true (stale_far s i c.from-k.result k c.if-k-ge1088.true)
-
-pub returns-then-seen-k : goal.returns-then-seen-k
-returns-then-seen-k c s h =
     let l = c.loop-key in
     let i = l.key-index in
     let k : c.from-k.result ≡ tracked_key s i = c.from-k.ensures ∙ c.from_le_bytes.ensures ∙ h i c.loop-key-test.true in
-    all_stop (fresh_key s) i (length c.args.keys.now) c.loop-key-test.true (stale_seen s l.seen i c.from-k.result k c.if-k-ge1088.false (l.invariant.1 s h).1 c.if-seen-k.true)
+    all_stop (fresh_key s) i (length c.args.keys.now) c.loop-key-test.true (elim c.then-k-ge1088.branch [
+      | then-k-ge1088-via-then-k-ge1088 w ↦ stale_far s i c.from-k.result k w.if-k-ge1088.true
+      | then-k-ge1088-via-else-k-ge1088+then-seen-k w ↦ stale_seen s l.seen i c.from-k.result k w.if-k-ge1088.false (l.invariant.1 s h).1 w.if-seen-k.true
+    ])
 
 pub loop-key-preserved : goal.loop-key-preserved
 loop-key-preserved c =

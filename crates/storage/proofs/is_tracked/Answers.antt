@@ -34,6 +34,5 @@ pub returns : goal.returns
 returns c =
     let x = c.args in
     let ks = c.in-Some.keys.now in
-    let (_, long, all) = c.in-Some.ensures in
     any_from_yields_List (is_key x.k) _ _ c.any.result c.any.ensures.ran (YieldsList-from_slice ks cc) (λ y b q r. search (rules, tests))
-    ∙ (ap (list_any (is_key x.k)) (sym (take-length ks)) ∙ (among x.img.now ks all x.k (length ks) (le_refl (length ks)) ∙ ap (λ (n : ℕ). tracked x.img.now n x.k) long))
+    ∙ (ap (list_any (is_key x.k)) (sym (take-length ks)) ∙ (among x.img.now ks c.in-Some.ensures.keys x.k (length ks) (le_refl (length ks)) ∙ ap (λ (n : ℕ). tracked x.img.now n x.k) c.in-Some.ensures.count.1))
