@@ -64,7 +64,7 @@ impl Withdrawal {
     }
 
     // 23; 13.
-    #[tactic(auto, unfolding(fields::specs::Rules::chain, fields::specs::Rules::or_else, crate::specs::Payouts::pay_number), using(crate::proofs::Steps::had, crate::proofs::Steps::sent_is, refusal::specs::Laws::on_ok))]
+    #[tactic(auto, unfolding(fields::specs::Rules::chain, fields::specs::Rules::or_else, fields::specs::Rules::verdict, crate::specs::Payouts::remaining_number, crate::specs::Payouts::pay_number), using(crate::proofs::Steps::had, crate::proofs::Steps::sent_is, refusal::specs::Laws::on_ok, amount::specs::Order::ne_true, amount::specs::Order::ne_false))]
     fn send(self, img: &mut Image, due: Payout) -> Result<(), Refusal>
         requires { Good img.old }
         ensures value { code result ≡ pay_number img.old self.token.address due.to.number (biased due.amount) }
@@ -149,6 +149,7 @@ fn add_item(sum: Amount, n: Amount) -> Result<Amount, Refusal>
 }
 
 // Item by item 4, 7. The one of `batch_deposits` tests an item by other rules, and its sum cannot pass 2 ^ 127 - 1.
+#[tactic(auto, using(amount::specs::Order::biased_zero, crate::proofs::Loops::sum_begins, crate::proofs::Loops::sum_ends))]
 fn add_items(listed: Items<'_>) -> Result<Amount, Refusal>
     ensures number { code result ≡ items_number (items listed.entry.count 0 listed.entry.rec.now) bias }
     ensures total { IfOk result (λ t. biased t ≡ items_sum (items listed.entry.count 0 listed.entry.rec.now) bias) }
