@@ -43,7 +43,8 @@ pub fn owner_role_check(img: &Image, caller: u8) -> Result<(), Refusal>
     )
 }
 
-// 1, 3, 22.
+// 1, 3, 22. `shared_gate` differs in one check, which a parameter would name as well.
+// Callers hold `caller` and `signers` as two fields: a struct of the two would be made at each call.
 pub fn owner_gate(img: &Image, caller: u8, signers: u64) -> Result<(), Refusal>
     ensures { code result ≡ owner_number img.now caller signers }
 {

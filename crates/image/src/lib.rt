@@ -7,11 +7,12 @@ mod kind;
 mod options;
 mod places;
 
-ghost use Rattle.std.specs.Prelude.{◌≡◌, ◌+◌, ◌*◌, ◌/◌, ◌≤◌, ◌<◌, ltb, leb, eqb, length};
+ghost use Rattle.std.specs.Prelude.{List, ℕ, MatchOption, IfSome, ◌≡◌, ◌+◌, ◌*◌, ◌/◌, ◌≤◌, ◌<◌, ltb, leb, eqb, length};
 ghost use Rattle.fields.specs.Bytes.{le, put};
 ghost use Rattle.amount.specs.Biased.{amount_at, bias, num};
 ghost use Rattle.image.specs.Kinds.{kind_of, kind_number};
-ghost use Rattle.image.specs.Layout.{slot, kind, token_at};
+ghost use Rattle.image.specs.Layout.{slot, kind, token_at, tracked_count};
+ghost use Rattle.image.specs.Keys.{AreTracked};
 ghost use Rattle.fields.specs.Logic.{all};
 ghost use Rattle.image.specs.Good.{
   not_negatives,
@@ -33,6 +34,7 @@ ghost use Rattle.image.specs.Good.{
 };
 
 pub use address::{Address, Token, contains};
+use amount::Amount;
 pub use flag::{Flag, has_flag};
 pub use kind::Kind;
 pub use options::{Snapshot, cap, operator, operator_limit, pending_owner, vault_snapshot};
@@ -80,12 +82,12 @@ fn above_at(s: &[u8], at: usize) -> bool
     amount::read_amount(s, at).is_positive()
 }
 
-#[tactic(auto, using(fields::specs::Logic::and_is, crate::specs::Laws::both_zero))]
+#[tactic(auto, using(crate::proofs::AmountTests::is_zero))]
 fn nothing_at(s: &[u8], at: usize) -> bool
     requires { at + 16 ≤ length s.now }
     ensures { result ≡ eqb (amount_at s.now at) bias }
 {
-    zero64_at(s, at) & zero64_at(s, at + 8)
+    amount::read_amount(s, at) == Amount::ZERO
 }
 
 fn not_negative_at(s: &[u8], at: usize) -> bool
@@ -137,6 +139,7 @@ fn good_defaults(s: &Image) -> bool
     above_at(s, VAULT_LIMIT) & (fields::get64(s, TIME_TO_LIVE) > 0) & is_present
 }
 
+// `good_migration` tests other fields in other widths, of which each is a name of the format.
 fn good_pending(s: &Image) -> bool
     ensures { result ≡ good_pending s.now }
 {
@@ -189,6 +192,7 @@ fn good_cap(s: &Image, a: Address) -> bool
     above_where(s, cap_at(a), contains(set, a.number))
 }
 
+// `good_tokens` is the same of another test and number; a function of those two would be `all`.
 fn good_caps(s: &Image) -> bool
     ensures { result ≡ all (good_cap s.now) 64 }
 {
@@ -199,18 +203,28 @@ fn good_caps(s: &Image) -> bool
     )
 }
 
+// The tracked keys, two bytes each, where there are no more of them than an image has room for.
+pub fn tracked_keys(img: &Image) -> Option<&[[u8; 2]]>
+    ensures count { MatchOption result (1088 < tracked_count img.now) (λ keys. (tracked_count img.now ≤ 1088) × (length keys.now ≡ tracked_count img.now)) }
+    ensures keys { IfSome result (λ keys. AreTracked img.now keys.now) }
+{
+    let n = usize::try_from(fields::get64(img, TRACKED_COUNT)).ok()?;
+    if n > 1088 {
+        return None;
+    }
+    let (keys, _) = img[TRACKED_KEYS..TRACKED_KEYS + 2 * n].as_chunks::<2>();
+    Some(keys)
+}
+
+// Whether all keys are below 1,088, and no two the same.
 #[tactic(auto, using(crate::specs::Laws::each_tested, crate::specs::Laws::seen_none))]
-fn fresh_keys(s: &Image, n: usize) -> bool
-    requires { n ≤ 1088 }
-    ensures { result ≡ all (fresh_key s.now) n }
+fn fresh_keys(keys: &[[u8; 2]]) -> bool
+    ensures { (l : List ℕ) → AreTracked l keys.now → result ≡ all (fresh_key l) (length keys.now) }
 {
     let mut seen = [false; 1088];
-    for i in 0..n {
-        let k = usize::from(fields::get16(s, TRACKED_KEYS + 2 * i));
-        if k >= 1088 {
-            return false;
-        }
-        if seen[k] {
+    for key in keys {
+        let k = usize::from(u16::from_le_bytes(*key));
+        if k >= 1088 || seen[k] {
             return false;
         }
         seen[k] = true;
@@ -222,12 +236,10 @@ fn fresh_keys(s: &Image, n: usize) -> bool
 fn good_keys(s: &Image) -> bool
     ensures { result ≡ good_keys s.now }
 {
-    let n = fields::get64(s, TRACKED_COUNT);
-    if n > 1088 {
+    let Some(keys) = tracked_keys(s) else {
         return false;
-    }
-    let m = n as usize;
-    fresh_keys(s, m) & fields::are_zero(&s[TRACKED_KEYS + 2 * m..TRACKED_KEYS + 2176])
+    };
+    fresh_keys(keys) & fields::are_zero(&s[TRACKED_KEYS + 2 * keys.len()..TOKENS])
 }
 
 fn good_snapshot(s: &Image, token: Token) -> bool

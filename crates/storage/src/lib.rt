@@ -19,8 +19,10 @@ fn is_tracked(img: &Image, k: u16) -> bool
     requires { Keys img.now }
     ensures { result ≡ tracked img.now (tracked_count img.now) k }
 {
-    let n = fields::get64(img, image::TRACKED_COUNT) as usize;
-    (0..n).any(|i| fields::get16(img, image::TRACKED_KEYS + 2 * i) == k)
+    let Some(keys) = image::tracked_keys(img) else {
+        return false;
+    };
+    keys.iter().any(|key| u16::from_le_bytes(*key) == k)
 }
 
 // Keys are distinct and below 1,088, so that there is room for one that is not tracked yet.
@@ -32,6 +34,7 @@ fn track_vault_key(img: &mut Image, k: u16)
     if is_tracked(img, k) {
         return;
     }
+    // At most 1,088, so that the cast loses nothing.
     let n = fields::get64(img, image::TRACKED_COUNT);
     fields::put16(img, image::TRACKED_KEYS + 2 * (n as usize), k);
     fields::put64(img, image::TRACKED_COUNT, n + 1);
@@ -49,11 +52,11 @@ pub fn set_token_account_balance(img: &mut Image, token: Token, account: Address
     ensures { img.new ≡ set_credit img.old token.address account.number (biased balance) }
 {
     amount::write_amount(img, image::credit_at(token, account), balance);
-    let key = 64 * token.slot() + usize::from(account.number);
-    track_vault_key(img, key as u16);
+    let key = 64 * u16::from(token.address - 48) + u16::from(account.number);
+    track_vault_key(img, key);
 }
 
-// The set with bit k, below 64, set.
+// The set with bit k, below 64, set. Addresses and flags are numbered so, and share no type.
 #[tactic(auto, using(crate::specs::Bits::shifted_one, crate::specs::Bits::or_bit))]
 pub fn with_bit(set: u64, k: u64) -> u64
     requires { k < 64 }
@@ -71,13 +74,13 @@ pub fn without_bit(set: u64, k: u64) -> u64
     set & !(1 << k)
 }
 
-// This and `clear_flag` differ in the function that they call; a closure for it would be longer. Flags are below 64.
+// This and `clear_flag` differ in the function that they call, which a parameter would name as well. Flags are six bits, so that the cast loses none.
 pub fn set_flag(img: &mut Image, flag: Flag)
     requires { Good img.old }
     ensures { img.new ≡ put 2 img.old 0 (with_bit (flags img.old) (flag_bit flag)) }
 {
     let set = u64::from(fields::get16(img, image::FLAGS));
-    let k = u64::from(u16::from(flag));
+    let k = u64::from(u8::from(flag));
     fields::put16(img, image::FLAGS, with_bit(set, k) as u16);
 }
 
@@ -86,7 +89,7 @@ pub fn clear_flag(img: &mut Image, flag: Flag)
     ensures { img.new ≡ put 2 img.old 0 (without_bit (flags img.old) (flag_bit flag)) }
 {
     let set = u64::from(fields::get16(img, image::FLAGS));
-    let k = u64::from(u16::from(flag));
+    let k = u64::from(u8::from(flag));
     fields::put16(img, image::FLAGS, without_bit(set, k) as u16);
 }
 

@@ -18,11 +18,13 @@ pub const VAULT: Address = Address { number: 1 };
 
 // 23 where there is no such token.
 #[tactic(auto, unfolding(fields::specs::Rules::verdict, crate::specs::Token::absent_number))]
-pub fn presence_check(img: &Image, t: u8) -> Result<Token, Refusal>
+pub fn presence_check(img: &Image, t: usize) -> Result<Token, Refusal>
     ensures number { code result ≡ absent_number img.now t }
     ensures token { IfOk result (λ token. token.address ≡ t) }
 {
-    Token::new(t)
+    u8::try_from(t)
+        .ok()
+        .and_then(Token::new)
         .filter(|token| image::token_kind(img, *token) != Kind::Absent)
         .ok_or(Refusal::TokenCallFailed)
 }
@@ -108,7 +110,7 @@ struct Moved {
 #[tactic(auto, unfolding(fields::specs::Rules::verdict, crate::specs::Token::transfer_number), using(amount::specs::Order::less_is, crate::proofs::Steps::refused_if, crate::proofs::Steps::too_much, crate::proofs::Steps::is_room, crate::proofs::Steps::sum_received))]
 fn transfer_check(
     img: &Image,
-    t: u8,
+    t: usize,
     from: Address,
     to: Address,
     n: Amount,
@@ -117,7 +119,10 @@ fn transfer_check(
     ensures number { code result ≡ transfer_number img.now t from.number to.number (biased n) }
     ensures moved { IfOk result (MovedIs img.now t from.number to.number (biased n)) }
 {
-    let token = moving(img, t).ok_or(Refusal::TokenCallFailed)?;
+    let token = u8::try_from(t)
+        .ok()
+        .and_then(|t| moving(img, t))
+        .ok_or(Refusal::TokenCallFailed)?;
     let held = balance(img, token, from);
     refusal::refuse_if(held < n, Refusal::TokenCallFailed)?;
     let left = held - n;
@@ -135,7 +140,7 @@ fn transfer_check(
 #[tactic(auto, unfolding(crate::specs::Token::transferred), using(refusal::specs::Laws::some_number, crate::proofs::Steps::moved))]
 pub fn transfer(
     img: &mut Image,
-    t: u8,
+    t: usize,
     from: Address,
     to: Address,
     n: Amount,
