@@ -39,6 +39,15 @@ impl Done {
     }
 }
 
+// Done with no value and no event, which the buffer then says.
+#[tactic(auto, using(amount::specs::Order::biased_zero))]
+pub fn announce_nothing(events: &mut Buffer) -> Done
+    ensures { (biased result.value ≡ bias) × (result.events ≡ 0) × (events.new ≡ event_buffer []) }
+{
+    events::clear_events(events);
+    Done::new(0)
+}
+
 // Done with no value and one event, which the buffer then holds alone.
 #[tactic(auto, using(amount::specs::Order::biased_zero))]
 pub fn announce(events: &mut Buffer, event: Event) -> Done

@@ -140,6 +140,7 @@ struct Reading<'a> {
 }
 
 impl Reading<'_> {
+    #[tactic(auto, unfolding(crate::specs::Form::head_exceeds), using(fields::specs::Logic::or_is, fields::specs::Logic::or_assoc, crate::proofs::Bytes::byte_read))]
     fn head_exceeds(self) -> bool
         ensures { result ≡ head_exceeds self.entry.rec.now }
     {
@@ -150,6 +151,7 @@ impl Reading<'_> {
         a | b | c | d
     }
 
+    #[tactic(auto, unfolding(crate::specs::Form::items_exceed), using(crate::proofs::ItemRule::unread, crate::proofs::ItemRule::many, crate::proofs::ItemRule::few, crate::proofs::Bytes::byte_read))]
     fn items_exceed(self) -> bool
         ensures { result ≡ items_exceed self.entry.rec.now }
     {
@@ -187,6 +189,7 @@ fn address(byte: u8) -> Address
 }
 
 // Whether a field holds more than the most that it may, where it is read.
+#[tactic(auto, using(fields::specs::Logic::true_and, fields::specs::Logic::false_and))]
 fn exceeds(read: bool, value: u8, most: u8) -> bool
     ensures { result ≡ read and ltb most value }
 {
@@ -194,6 +197,7 @@ fn exceeds(read: bool, value: u8, most: u8) -> bool
 }
 
 // A record of good form, and 32 of any other bytes.
+#[tactic(auto, using(crate::proofs::Form::other_length, crate::proofs::Decoded::decoded))]
 pub fn parse(rec: &[u8]) -> Result<Parsed<'_>, Refusal>
     ensures number { code result ≡ form_number rec.now }
     ensures parsed { IfOk result (λ parsed. parsed.rec.now ≡ rec.now) }
