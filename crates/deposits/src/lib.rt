@@ -82,7 +82,7 @@ impl Payment {
     {
         token::transfer(
             img,
-            self.token.address,
+            usize::from(self.token.address),
             self.from,
             token::VAULT,
             self.amount,
@@ -282,7 +282,7 @@ fn token_funding_check(img: &Image, head: Head) -> Result<Token, Refusal>
     ensures token { IfOk result (λ token. token.address ≡ head.token.number) }
 {
     checks::approved_check(img, head.token.number)?;
-    let token = token::presence_check(img, head.token.number)?;
+    let token = token::presence_check(img, usize::from(head.token.number))?;
     let held = token::balance(img, token, token::VAULT);
     storage::check_vault_balance(img, token, head.sequence, held)?;
     token_cap_check(img, token, held, head.amount)?;

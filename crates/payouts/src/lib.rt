@@ -71,7 +71,13 @@ impl Withdrawal {
         ensures img_after { OnOk result (img.new ≡ transfer_of img.old self.token.address 1 due.to.number (biased due.amount)) }
     {
         let held = token::balance(img, self.token, token::VAULT);
-        token::transfer(img, self.token.address, token::VAULT, due.to, due.amount)?;
+        token::transfer(
+            img,
+            usize::from(self.token.address),
+            token::VAULT,
+            due.to,
+            due.amount,
+        )?;
         refusal::refuse_if(
             token::balance(img, self.token, token::VAULT) != held - due.amount,
             Refusal::WithdrawTransferFailed,
@@ -207,7 +213,7 @@ fn withdraw_token_checks(img: &Image, head: Head) -> Result<Token, Refusal>
     checks::open_gate(img, head.caller.number, head.signers)?;
     checks::amount_check(head.amount)?;
     checks::cap_check(img, head.caller.number, head.amount)?;
-    let token = token::presence_check(img, head.token.number)?;
+    let token = token::presence_check(img, usize::from(head.token.number))?;
     checks::funds_check(token::balance(img, token, token::VAULT), head.amount)?;
     credit_check(img, token, head.caller, head.amount)?;
     Ok(token)
