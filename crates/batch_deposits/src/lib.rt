@@ -83,7 +83,7 @@ impl Batch<'_> {
         let item = self.items.get(i);
         token::transfer(
             img,
-            self.token.address,
+            usize::from(self.token.address),
             item.address,
             token::VAULT,
             item.amount,

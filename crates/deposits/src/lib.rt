@@ -44,6 +44,7 @@ fn checked_sum(a: Amount, n: Amount) -> Result<Amount, Refusal>
 }
 
 // 12: the vault's holding is not the one expected.
+#[tactic(auto, unfolding(fields::specs::Rules::verdict, crate::specs::Deposit::expected_number), using(amount::specs::Order::ne_true, amount::specs::Order::ne_false))]
 pub fn expected_check(held: Amount, expected: Amount) -> Result<(), Refusal>
     ensures { code result ≡ expected_number (biased held) (biased expected) }
 {
@@ -81,7 +82,7 @@ impl Payment {
     {
         token::transfer(
             img,
-            self.token.address,
+            usize::from(self.token.address),
             self.from,
             token::VAULT,
             self.amount,
@@ -281,7 +282,7 @@ fn token_funding_check(img: &Image, head: Head) -> Result<Token, Refusal>
     ensures token { IfOk result (λ token. token.address ≡ head.token.number) }
 {
     checks::approved_check(img, head.token.number)?;
-    let token = token::presence_check(img, head.token.number)?;
+    let token = token::presence_check(img, usize::from(head.token.number))?;
     let held = token::balance(img, token, token::VAULT);
     storage::check_vault_balance(img, token, head.sequence, held)?;
     token_cap_check(img, token, held, head.amount)?;

@@ -64,14 +64,20 @@ impl Withdrawal {
     }
 
     // 23; 13.
-    #[tactic(auto, unfolding(fields::specs::Rules::chain, fields::specs::Rules::or_else, crate::specs::Payouts::pay_number), using(crate::proofs::Steps::had, crate::proofs::Steps::sent_is, refusal::specs::Laws::on_ok))]
+    #[tactic(auto, unfolding(fields::specs::Rules::chain, fields::specs::Rules::or_else, fields::specs::Rules::verdict, crate::specs::Payouts::remaining_number, crate::specs::Payouts::pay_number), using(crate::proofs::Steps::had, crate::proofs::Steps::sent_is, refusal::specs::Laws::on_ok, amount::specs::Order::ne_true, amount::specs::Order::ne_false))]
     fn send(self, img: &mut Image, due: Payout) -> Result<(), Refusal>
         requires { Good img.old }
         ensures value { code result ≡ pay_number img.old self.token.address due.to.number (biased due.amount) }
         ensures img_after { OnOk result (img.new ≡ transfer_of img.old self.token.address 1 due.to.number (biased due.amount)) }
     {
         let held = token::balance(img, self.token, token::VAULT);
-        token::transfer(img, self.token.address, token::VAULT, due.to, due.amount)?;
+        token::transfer(
+            img,
+            usize::from(self.token.address),
+            token::VAULT,
+            due.to,
+            due.amount,
+        )?;
         refusal::refuse_if(
             token::balance(img, self.token, token::VAULT) != held - due.amount,
             Refusal::WithdrawTransferFailed,
@@ -149,6 +155,7 @@ fn add_item(sum: Amount, n: Amount) -> Result<Amount, Refusal>
 }
 
 // Item by item 4, 7. The one of `batch_deposits` tests an item by other rules, and its sum cannot pass 2 ^ 127 - 1.
+#[tactic(auto, using(amount::specs::Order::biased_zero, crate::proofs::Loops::sum_begins, crate::proofs::Loops::sum_ends))]
 fn add_items(listed: Items<'_>) -> Result<Amount, Refusal>
     ensures number { code result ≡ items_number (items listed.entry.count 0 listed.entry.rec.now) bias }
     ensures total { IfOk result (λ t. biased t ≡ items_sum (items listed.entry.count 0 listed.entry.rec.now) bias) }
@@ -206,7 +213,7 @@ fn withdraw_token_checks(img: &Image, head: Head) -> Result<Token, Refusal>
     checks::open_gate(img, head.caller.number, head.signers)?;
     checks::amount_check(head.amount)?;
     checks::cap_check(img, head.caller.number, head.amount)?;
-    let token = token::presence_check(img, head.token.number)?;
+    let token = token::presence_check(img, usize::from(head.token.number))?;
     checks::funds_check(token::balance(img, token, token::VAULT), head.amount)?;
     credit_check(img, token, head.caller, head.amount)?;
     Ok(token)

@@ -1,13 +1,9 @@
 -- `payouts::add_items` meets its contract.
-use Rattle.payouts.proofs.Loops.{sum_begins, sum_stops, sum_goes_on, sum_ends}
+use Rattle.payouts.proofs.Loops.{sum_stops, sum_goes_on}
 use Rattle.refusal.specs.Laws.{code_passed, some_number}
-use Rattle.amount.specs.Order.{biased_zero}
 use native.Mathlib.Omega.{arith}
 use mathlib.Core.Path.{refl, ◌∙◌}
 use Rattle.payouts.proofs.add_items.Goals as goal
-
-pub loop-i-init : goal.loop-i-init
-loop-i-init c = sum_begins _ _ _ biased_zero
 
 pub returns-in_err-sum-clause-number : goal.returns-in_err-sum-clause-number
 returns-in_err-sum-clause-number c =
@@ -15,6 +11,3 @@ returns-in_err-sum-clause-number c =
 
 pub loop-i-preserved : goal.loop-i-preserved
 loop-i-preserved c = let f = c.in_ok-sum.ensures in sum_goes_on _ _ _ _ c.loop-i.invariant (omega arith) c.get.ensures.1 f.number refl f.total
-
-pub returns : goal.returns
-returns c = let e = sum_ends _ _ _ _ c.loop-i.invariant (omega arith) in record { number = e.0; total = e.1 }
