@@ -1,25 +1,22 @@
 -- Whole deposits, from what their parts say.
-use Rattle.std.specs.Prelude.{Result, Ok}
+use Rattle.std.specs.Prelude.{Ok}
 use mathlib.Core.Path.{◌≡◌, refl, sym, ◌∙◌}
 use mathlib.Core.List.{List}
 use Prim.Native.Nat.{ℕ, ◌≤◌, ◌<◌}
 use native.Mathlib.Nat.{add-zero}
 use native.Mathlib.Omega.{arith}
-use borrow.Author.Tests.{eq-eqb, ne_eqb}
-use Rattle.refusal.specs.declared.Refusal.{Refusal}
 use Rattle.outcome.specs.declared.Done.{Done}
-use Rattle.outcome.specs.Outcome.{Does, accepted, Announced, announced}
+use Rattle.outcome.specs.Outcome.{Does, accepted}
 use Rattle.outcome.specs.Checked.{checks_pass}
-use Rattle.events.specs.Kinds.{token_deposited_event, vault_deposit_failed_event}
+use Rattle.events.specs.Kinds.{token_deposited_event}
 use Rattle.events.specs.Event.{put_event}
 use Rattle.events.specs.Buffer.{appended}
 use Rattle.fields.specs.Rules.{AllFail}
 use Rattle.token.specs.Token.{transfer_rules, transfer_number, transfer_of, transferred}
-use Rattle.token.specs.Laws.{transfer_done, transfer_free, transfer_failed, good_transfer}
+use Rattle.token.specs.Laws.{transfer_done, transfer_free, good_transfer}
 use Rattle.storage.specs.Facts.{Keys, Good}
 use Rattle.amount.specs.Biased.{bias, biased}
 use Rattle.deposits.specs.Deposit.{receive_number, deposit_outcome, gross_number, net_of, deposit_with_fee_outcome}
-use Rattle.deposits.specs.Report.{settled_report, report_outcome}
 use Rattle.deposits.specs.TokenDeposit.{receive_token_number}
 use Rattle.deposits.proofs.Laws.{receive_free, receive_token_free}
 
@@ -46,13 +43,3 @@ net_deposited l caller signers seq gross fee z e f q r =
     let h = rw e at q in
     let s = sym g.numbered in
     checks_pass _ _ z (accepted s (r.0 ∙ sym (add-zero bias)) r.1 (g.changed s) (appended _ 1 (g.written s) refl h refl (omega arith)))
-
--- ---- operation 9: a transfer that failed, and one that did not
-module _ (l : List ℕ) (t from seq n : ℕ) where
-  pub reported : {d : Done} {y w : List ℕ} → (transfer_number l t from 1 n ≡ 0 → ⊥) → y ≡ transferred l t from 1 n → Announced (vault_deposit_failed_event from t n) d w → Does (report_outcome l t from seq n) (Ok d) y w
-  unfolding report_outcome
-  reported f q a = rw (ne_eqb (transfer_number l t from 1 n) 0 f) (announced refl refl a (q ∙ transfer_failed l t from 1 n f))
-
-  pub not_reported : {a : Result Done Refusal} {m w : List ℕ} → transfer_number l t from 1 n ≡ 0 → Does (settled_report l t from seq n) a m w → Does (report_outcome l t from seq n) a m w
-  unfolding report_outcome
-  not_reported z d = rw (eq-eqb (transfer_number l t from 1 n) 0 z) d

@@ -44,7 +44,7 @@ fn checked_sum(a: Amount, n: Amount) -> Result<Amount, Refusal>
 }
 
 // 12: the vault's holding is not the one expected.
-#[tactic(auto, unfolding(fields::specs::Rules::verdict, crate::specs::Deposit::expected_number), using(amount::specs::Order::ne_true, amount::specs::Order::ne_false))]
+#[tactic(auto, unfolding(fields::specs::Rules::verdict, crate::specs::Deposit::expected_number), using(crate::proofs::Steps::ne_is))]
 pub fn expected_check(held: Amount, expected: Amount) -> Result<(), Refusal>
     ensures { code result ≡ expected_number (biased held) (biased expected) }
 {
@@ -156,7 +156,7 @@ impl Payment {
     }
 
     // A failed transfer is done with value 0; else 12; 7.
-    #[tactic(auto, using(crate::proofs::Whole::transfer_keys, refusal::specs::Laws::code_is_ok))]
+    #[tactic(auto, unfolding(fields::specs::Rules::chain, fields::specs::Rules::or_else, crate::specs::Deposit::deposit_image, crate::specs::Report::report_outcome), using(outcome::specs::Outcome::refused, outcome::specs::Outcome::accepted, token::specs::Laws::transfer_done, token::specs::Laws::transfer_failed, crate::proofs::Whole::transfer_keys, refusal::specs::Laws::code_is_ok, refusal::specs::Laws::code_is_err))]
     fn report(self, img: &mut Image, events: &mut Buffer) -> Answer
         requires { Good img.old × (holding img.old (slot self.token.address) 1 + biased self.amount < bias + bias + bias) }
         ensures { Does (report_outcome img.old self.token.address self.from.number self.sequence (biased self.amount)) result img.new events.new }

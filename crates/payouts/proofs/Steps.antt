@@ -1,12 +1,14 @@
 -- The steps of a payout, from what the functions called say.
-use mathlib.Core.Path.{◌≡◌, refl, sym, ◌∙◌}
+use mathlib.Core.Path.{◌≡◌, refl, sym, ap, ◌∙◌}
 use mathlib.Core.Bool.{Bool, true, false}
 use mathlib.Core.List.{List, [], ◌∷◌}
 use Prim.Native.Nat.{ℕ, ◌+◌, ◌-◌, ◌≤◌, ◌<◌}
 use native.Mathlib.Omega.{arith}
-use borrow.Author.Tests.{le-leb, lt-leb}
+use borrow.Author.Tests.{le-leb, lt-leb, eq-eqb, ne_eqb}
+use Rattle.std.specs.Ordering.{int_eq}
+use Rattle.amount.specs.Order.{ne_true, ne_false}
 use lib.Dec.{leb}
-use Rattle.std.specs.Prelude.{FitsSigned}
+use Rattle.std.specs.Prelude.{FitsSigned, not, eqb}
 use Rattle.std.specs.Int.{w128}
 use Rattle.std.proofs.Common.{Result}
 use Rattle.amount.specs.declared.Amount.{Amount}
@@ -16,18 +18,16 @@ use Rattle.refusal.specs.Numbers.{number_of, code}
 use Rattle.refusal.specs.Laws.{code_passed, some_number}
 use Rattle.outcome.specs.Outcome.{Refuses}
 use Rattle.checks.specs.Checks.{paused_number, shared_number, amount_number, cap_number, funds_number}
-use Rattle.events.specs.Kinds.{withdrawn_event}
-use Rattle.events.specs.Event.{EventFields, put_event}
 use Rattle.token.specs.Token.{vault_balance, transfer_number, transfer_of, transferred}
 use Rattle.token.specs.Laws.{transfer_free, transfer_done}
-use Rattle.storage.specs.Setters.{set_credit, record_balance}
+use Rattle.storage.specs.Setters.{set_credit}
 use Rattle.image.specs.Layout.{slot, holding, credit}
 use Rattle.amount.specs.Biased.{bias, biased}
 use Rattle.fields.specs.Rules.{pick, eq, when, verdict, stop_at, or_else, or_none, chain}
 use Rattle.payouts.specs.Laws.{items-length}
-use Rattle.payouts.specs.Parts.{put_events, Pays}
+use Rattle.payouts.specs.Parts.{Pays}
 use Rattle.payouts.specs.Token.{take_credit}
-use Rattle.payouts.specs.Payouts.{Payout, payout, items, no_item_rules, no_item_number, item_number, items_number, items_sum, withdraw_checks, pay_number, pay_image, payouts_number, payouts_image, payouts_events}
+use Rattle.payouts.specs.Payouts.{Payout, payout, items, no_item_rules, no_item_number, item_number, items_number, items_sum, withdraw_checks, payouts_number}
 
 -- ---- credits: c is the credit read
 module _ (l : List ℕ) (t a n : ℕ) {c : ℕ} (e : c ≡ credit l (slot t) a) where
@@ -74,6 +74,14 @@ unfolding withdraw_checks chain or_else
 one_checks l caller signers to a b e = rw (one_none (payout to (biased a)) [], one-sum to (biased a), ← one_item to (biased a) (biased_below a b) refl) e
 
 -- ---- the transfer and what it leaves
+-- what `!=` answers of two amounts
+pub ne_is : (a b : Amount) → FitsSigned w128 a.0 → FitsSigned w128 b.0 → not (int_eq a.0 b.0) ≡ not (eqb (biased a) (biased b))
+ne_is a b f g = go (not (int_eq a.0 b.0)) refl
+  where
+    go : (t : Bool) → not (int_eq a.0 b.0) ≡ t → not (int_eq a.0 b.0) ≡ not (eqb (biased a) (biased b))
+    go true e = e ∙ sym (ap not (ne_eqb (biased a) (biased b) (ne_true a b f g refl e)))
+    go false e = e ∙ sym (ap not (eq-eqb (biased a) (biased b) (ne_false a b f g refl e)))
+
 module _ (l : List ℕ) (t to n : ℕ) where
   pub had : {h : ℕ} → 0 ≡ transfer_number l t 1 to n → h ≡ holding l (slot t) 1 → n ≤ h
   had e f = let g = (transfer_free l t 1 to n e refl).1.1.1.0 in omega arith
@@ -85,15 +93,3 @@ module _ (l : List ℕ) (t to n : ℕ) where
 -- ---- what payouts that refused owe, they owe of the answer that passes the refusal on
 pub passed_pays : {ps : List Payout} {t seq caller by : ℕ} {l e : List ℕ} {i : ℕ} {m v : List ℕ} (x : Refusal) (r : Result (Unit {0}) Refusal) → Refuses r x → number_of x ≡ payouts_number ps t seq l → Pays ps t seq caller by l e i (code r) m v
 passed_pays x r p d = rw (code_passed x r p) (record { numbered = d; changed = λ y. absurd (some_number x y); written = λ y. absurd (some_number x y) })
-
--- ---- one payout
-module _ (l : List ℕ) (t seq caller by to n : ℕ) {e : List ℕ} {i : ℕ} {m v : List ℕ} where
-  pub not_paid : (x : Refusal) (r : Result (Unit {0}) Refusal) → Refuses r x → number_of x ≡ pay_number l t to n → Pays (payout to n ∷ []) t seq caller by l e i (code r) m v
-  unfolding payouts_number
-  not_paid x r p q = passed_pays x r p (q ∙ sym (or_none _))
-
-  -- y is the image after the transfer, h the holding read there, f the fields of the event, m and v the image and the events after snapshot and event
-  pub paid : {y : List ℕ} {h : ℕ} {f : EventFields} → 0 ≡ pay_number l t to n → y ≡ transfer_of l t 1 to n → h ≡ holding y (slot t) 1 → m ≡ record_balance y t seq h
-      → f ≡ withdrawn_event caller to n h by → v ≡ put_event e i f → Pays (payout to n ∷ []) t seq caller by l e i 0 m v
-  unfolding payouts_number payouts_image payouts_events pay_image put_events
-  paid a q r s w x = record { numbered = a ∙ sym (or_none _); changed = λ _. rw (s, r, q); written = λ _. rw (x, w, r, q) }

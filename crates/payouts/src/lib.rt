@@ -1,5 +1,5 @@
 // Operations 5 `withdraw`, 6 `withdraw_batch` and 8 `withdraw_token` (lib.rs).
-#![tactic(auto, unfolding(fields::specs::Rules::chain, fields::specs::Rules::or_else, crate::specs::Payouts::withdraw_number, crate::specs::Payouts::withdraw_outcome, crate::specs::Token::withdraw_token_number, crate::specs::Token::withdraw_token_outcome), using(outcome::specs::Outcome::refused, crate::specs::Laws::checks_passed, crate::specs::Laws::batch_passed, crate::specs::Laws::token_checks_passed, crate::proofs::Whole::paid_out, crate::proofs::Whole::sent_keys))]
+#![tactic(auto, unfolding(fields::specs::Rules::chain, fields::specs::Rules::or_else, crate::specs::Payouts::withdraw_number, crate::specs::Payouts::withdraw_outcome, crate::specs::Payouts::payouts_number, crate::specs::Payouts::payouts_image, crate::specs::Payouts::payouts_events, crate::specs::Parts::put_events, crate::specs::Token::withdraw_token_number, crate::specs::Token::withdraw_token_outcome, crate::specs::Token::withdraw_token_image), using(outcome::specs::Outcome::refused, outcome::specs::Outcome::accepted, events::specs::Buffer::written_one, crate::specs::Laws::checks_passed, crate::specs::Laws::batch_passed, crate::specs::Laws::token_checks_passed, crate::proofs::Whole::all_written, crate::proofs::Whole::all_counted, crate::proofs::Whole::sent_keys))]
 
 ghost use Rattle.std.specs.Prelude.{OnOk, IfOk, ◌≡◌, [], ◌∷◌, ◌+◌, ◌-◌, ◌<◌, ◌≤◌};
 ghost use Rattle.refusal.specs.Numbers.{code};
@@ -64,7 +64,7 @@ impl Withdrawal {
     }
 
     // 23; 13.
-    #[tactic(auto, unfolding(fields::specs::Rules::chain, fields::specs::Rules::or_else, fields::specs::Rules::verdict, crate::specs::Payouts::remaining_number, crate::specs::Payouts::pay_number), using(crate::proofs::Steps::had, crate::proofs::Steps::sent_is, refusal::specs::Laws::on_ok, amount::specs::Order::ne_true, amount::specs::Order::ne_false))]
+    #[tactic(auto, unfolding(fields::specs::Rules::chain, fields::specs::Rules::or_else, fields::specs::Rules::verdict, crate::specs::Payouts::remaining_number, crate::specs::Payouts::pay_number), using(crate::proofs::Steps::had, crate::proofs::Steps::sent_is, crate::proofs::Steps::ne_is, refusal::specs::Laws::on_ok))]
     fn send(self, img: &mut Image, due: Payout) -> Result<(), Refusal>
         requires { Good img.old }
         ensures value { code result ≡ pay_number img.old self.token.address due.to.number (biased due.amount) }
@@ -85,6 +85,7 @@ impl Withdrawal {
     }
 
     // One payout, its event in place i.
+    #[tactic(auto, unfolding(crate::specs::Payouts::payouts_number, crate::specs::Payouts::payouts_image, crate::specs::Payouts::payouts_events, crate::specs::Payouts::pay_image, crate::specs::Parts::put_events), using(fields::specs::Rules::or_none, refusal::specs::Laws::some_number, refusal::specs::Laws::code_passed))]
     fn pay(self, img: &mut Image, due: Payout, i: usize, events: &mut Buffer) -> Result<(), Refusal>
         requires { Good img.old × (i < 16) }
         ensures { Pays (payout due.to.number (biased due.amount) ∷ []) self.token.address self.sequence self.caller.number (num self.by_operator) img.old events.old i (code result) img.new events.new }
