@@ -6,7 +6,7 @@ ghost use Rattle.std.specs.Prelude.{◌≡◌, ◌++◌, ◌+◌, ◌^◌, ◌<�
 ghost use Rattle.std.specs.Io.KnownBytes.{Appends};
 ghost use Rattle.std.specs.Fmt.{with_newline};
 ghost use Rattle.trial_records.specs.Trial.{records_from, reached_from};
-ghost use Rattle.token_vault_trial.specs.Arguments.{digits_after, read_decimal, fault_text, fault_line};
+ghost use Rattle.token_vault_trial.specs.Arguments.{read_decimal, fault_text, fault_line};
 ghost use Rattle.token_vault_trial.specs.Run.{reading_of, number_or_zero, number_of, code, fault_of, IsOrder, IsPiece, RunIs};
 
 mod order;
@@ -19,30 +19,20 @@ use std::{fmt, io};
 use trial_records::RECORDS_END;
 
 // ---- the arguments
-fn read_digits(text: &[u8]) -> Option<u64>
-    ensures { reading_of result ≡ digits_after 0 text.now }
-{
-    let mut number = 0u64;
-    for &b in text {
-        if !b.is_ascii_digit() {
-            return None;
-        }
-        let digit = u64::from(b - b'0');
-        number = number.checked_mul(10)?.checked_add(digit)?;
-    }
-    Some(number)
-}
-
+// A plus sign and zeros in front, which `parse` takes, are refused.
 fn read_decimal(text: &[u8]) -> Option<u64>
     ensures { reading_of result ≡ read_decimal text.now }
 {
-    if text.is_empty() {
+    if text.is_empty() || text[0] == b'+' {
         return None;
     }
     if text.len() > 1 && text[0] == b'0' {
         return None;
     }
-    read_digits(text)
+    let Ok(text) = str::from_utf8(text) else {
+        return None;
+    };
+    text.parse().ok()
 }
 
 // Of more than 20 bytes there is no number below 2^64.
