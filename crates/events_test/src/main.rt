@@ -5,17 +5,9 @@ ghost use Rattle.std.specs.Prelude.{◌<◌};
 
 use amount::Amount;
 use answer_line::Hexadecimal;
-use events::{Buffer, EVENT_LENGTH, Event, LENGTH};
+use events::{EVENT_LENGTH, Event, LENGTH};
 use refusal::Refusal;
 use std::io;
-
-fn rest_is_zero(buffer: &Buffer, i: usize) -> bool
-    requires { i < 16 }
-{
-    let at = EVENT_LENGTH * i;
-    let end = at + EVENT_LENGTH;
-    fields::are_zero(&buffer[..at]) && fields::are_zero(&buffer[end..])
-}
 
 fn show(rt: &impl Print, i: usize, e: Event) -> io::Result<()>
     requires { i < 16 }
@@ -23,9 +15,13 @@ fn show(rt: &impl Print, i: usize, e: Event) -> io::Result<()>
     let mut buffer = [255u8; LENGTH];
     events::clear_events(&mut buffer);
     events::put_event(&mut buffer, i, e);
-    let at = EVENT_LENGTH * i;
-    print!(rt; "{}", Hexadecimal(&buffer[at..at + EVENT_LENGTH]))?;
-    if rest_is_zero(&buffer, i) {
+    let (places, _) = buffer.as_chunks::<EVENT_LENGTH>();
+    print!(rt; "{}", Hexadecimal(&places[i]))?;
+    let rest_is_zero = places
+        .iter()
+        .enumerate()
+        .all(|(n, place)| n == i || fields::are_zero(place));
+    if rest_is_zero {
         println!(rt; " rest zero")
     } else {
         println!(rt; " rest not zero")

@@ -1,3 +1,2 @@
--- What the proofs of several functions use.
-pub mod Words
-pub mod Chain
+-- What the proof of `sha256` uses.
+pub mod Same

@@ -1,6 +1,5 @@
 -- SHA-256 of a list of bytes, as FIPS 180-4 defines it. Each part names its section of the standard; a word is a number below 2 ^ 32.
 use Rattle.std.specs.Prelude.{ℕ, zero, suc, ◌+◌, ◌-◌, ◌*◌, ◌/◌, ◌%◌, ◌^◌, List, [], ◌∷◌, ◌++◌, length, take, drop, replicate, bit_and, bit_xor, slice_index}
-use Rattle.sha256.specs.declared.State.{State}
 
 -- 3.2: the sum modulo 2 ^ 32, and a word rotated to the right by n bits
 abbrev pub plus : ℕ → ℕ → ℕ
@@ -47,6 +46,17 @@ constants =
     ∷ 0x391c0cb3 ∷ 0x4ed8aa4a ∷ 0x5b9cca4f ∷ 0x682e6ff3
     ∷ 0x748f82ee ∷ 0x78a5636f ∷ 0x84c87814 ∷ 0x8cc70208
     ∷ 0x90befffa ∷ 0xa4506ceb ∷ 0xbef9a3f7 ∷ 0xc67178f2 ∷ []
+
+-- 6.2: the eight working variables, and the hash value between two blocks
+pub record State : Type 0 where
+  pub a : ℕ
+  pub b : ℕ
+  pub c : ℕ
+  pub d : ℕ
+  pub e : ℕ
+  pub f : ℕ
+  pub g : ℕ
+  pub h : ℕ
 
 -- 5.3.3: the initial hash value
 abbrev pub initial : State

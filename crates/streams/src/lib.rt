@@ -17,10 +17,7 @@ pub fn read_full<R: Read>(reader: &mut R, buf: &mut [u8]) -> usize
     let mut done = 0;
     // A step is what a read gave, so that there is no range to go over.
     while done < buf.len() {
-        let n = match reader.read(&mut buf[done..]) {
-            Ok(n) => n,
-            Err(_) => 0,
-        };
+        let n = reader.read(&mut buf[done..]).unwrap_or(0);
         if n == 0 {
             break;
         }

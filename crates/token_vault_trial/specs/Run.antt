@@ -3,7 +3,7 @@ use Rattle.std.specs.Prelude.{◌≡◌, List, ℕ, ◌+◌, ◌^◌, ◌<◌, �
 use Rattle.trial_records.specs.Trial.{records_from, reached_from}
 use Rattle.token_vault_trial.specs.Arguments.{Reading, malformed, number, argument_fault}
 use Rattle.token_vault_trial.specs.declared.Arguments.{Arguments}
-use Rattle.token_vault_trial.specs.declared.Records.{Records}
+use Rattle.token_vault_trial.specs.declared.order.Records.{Records}
 use Rattle.token_vault_trial.specs.declared.Fault.{Fault}
 use Rattle.token_vault_trial.specs.declared.Fault.TheVariants.{NotThree, Start, First, Count, FirstIsZero, LastTooLarge}
 

@@ -6,39 +6,33 @@ ghost use Rattle.std.specs.Prelude.{◌≡◌, ◌++◌, ◌+◌, ◌^◌, ◌<�
 ghost use Rattle.std.specs.Io.KnownBytes.{Appends};
 ghost use Rattle.std.specs.Fmt.{with_newline};
 ghost use Rattle.trial_records.specs.Trial.{records_from, reached_from};
-ghost use Rattle.token_vault_trial.specs.Arguments.{digits_after, read_decimal, fault_text, fault_line};
+ghost use Rattle.token_vault_trial.specs.Arguments.{read_decimal, fault_text, fault_line};
 ghost use Rattle.token_vault_trial.specs.Run.{reading_of, number_or_zero, number_of, code, fault_of, IsOrder, IsPiece, RunIs};
 
+mod order;
+
+use order::Records;
 use std::env::FillError;
 use std::io::Write;
 use std::rt::Env;
 use std::{fmt, io};
+use trial_records::RECORDS_END;
 
 // ---- the arguments
-fn read_digits(text: &[u8]) -> Option<u64>
-    ensures { reading_of result ≡ digits_after 0 text.now }
-{
-    let mut number = 0u64;
-    for &b in text {
-        if !b.is_ascii_digit() {
-            return None;
-        }
-        let digit = u64::from(b - b'0');
-        number = number.checked_mul(10)?.checked_add(digit)?;
-    }
-    Some(number)
-}
-
+// A plus sign and zeros in front, which `parse` takes, are refused.
 fn read_decimal(text: &[u8]) -> Option<u64>
     ensures { reading_of result ≡ read_decimal text.now }
 {
-    if text.is_empty() {
+    if text.is_empty() || text[0] == b'+' {
         return None;
     }
     if text.len() > 1 && text[0] == b'0' {
         return None;
     }
-    read_digits(text)
+    let Ok(text) = str::from_utf8(text) else {
+        return None;
+    };
+    text.parse().ok()
 }
 
 // Of more than 20 bytes there is no number below 2^64.
@@ -86,16 +80,6 @@ impl fmt::Display for Fault {
 }
 
 // ---- the records
-// Records that are to be made: `left` of them, with record numbers from `next` on. `last` is the generator's number.
-#[derive(Clone, Copy, Debug, PartialEq, Eq)]
-struct Records {
-    last: u64,
-    next: u64,
-    left: u64,
-}
-
-const RECORDS_END: u64 = 1 << 32;
-
 // The arguments as they were read, `words` counting the program's own name too.
 #[derive(Clone, Copy)]
 struct Arguments {
@@ -140,15 +124,17 @@ impl Arguments {
 impl Records {
     // Makes the next n records.
     fn next_piece<'a>(&mut self, n: u64, buffer: &'a mut [u8; 57344]) -> &'a [u8]
-        requires { (n ≤ 128) × (n ≤ self.old.left) × (1 ≤ self.old.next) × (self.old.next + self.old.left ≤ 2 ^ 32) }
+        requires { (n ≤ 128) × (n ≤ self.old.left) }
         ensures piece { result.now ≡ records_from self.old.last self.old.next n }
         ensures rest { (self.new.last ≡ reached_from self.old.last n) × (self.new.next ≡ self.old.next + n) × (self.new.left + n ≡ self.old.left) }
     {
         let piece = &mut buffer[..448 * n as usize];
-        let reached = trial_records::trial_records(self.last, self.next, piece).unwrap();
-        self.last = reached;
-        self.next += n;
-        self.left -= n;
+        let last = trial_records::trial_records(self.last, self.next, piece).unwrap();
+        *self = Records {
+            last,
+            next: self.next + n,
+            left: self.left - n,
+        };
         piece
     }
 }
@@ -169,7 +155,6 @@ fn write_piece<O: Write>(
 
 // Returns how many records were made.
 fn write_records<O: Write>(output: &mut O, asked: Records) -> io::Result<u64>
-    requires { (1 ≤ asked.next) × (asked.next + asked.left ≤ 2 ^ 32) }
     ensures made { IfOk result (λ made. made ≡ asked.left) }
     ensures written { OnOk result (Appends (O.contents output.old) (O.contents output.new) (records_from asked.last asked.next asked.left)) }
 {

@@ -1,10 +1,10 @@
 -- Reading a record that was laid out field by field.
-use Rattle.std.proofs.Common.{◌≡◌, ℕ, zero, suc, ◌+◌, ◌*◌, ◌/◌, ◌^◌, ◌<◌, ◌≤◌, Bool, true, false, not, ◌&&◌, ltb, List, [], ◌∷◌, length, get_or, replicate, sym, refl, ap, ◌∙◌, lt_of_le_of_lt, add-zero, arith, lit<, le-ltb, lt-ltb}
+use Rattle.std.proofs.Common.{◌≡◌, ℕ, zero, suc, ◌+◌, ◌*◌, ◌/◌, ◌%◌, ◌^◌, ◌<◌, ◌≤◌, Bool, true, false, not, ◌&&◌, ltb, List, [], ◌∷◌, length, get_or, replicate, sym, refl, ap, ◌∙◌, lt_of_le_of_lt, add-zero, arith, lit<, le-ltb, lt-ltb}
 use Rattle.fields.specs.Bytes.{le, put, apart, bytes, bytes_from, length-put, le-put_other, le-put-same, le_split, put_split}
 use Rattle.fields.specs.Frame.{only_put}
 use Rattle.fields.specs.Logic.{◌and◌, ◌or◌, and_false, all_from}
 use Rattle.fields.specs.Rules.{and_left, and_right, stop}
-use Rattle.amount.specs.Biased.{bias, amount_at}
+use Rattle.amount.specs.Biased.{bias, amount_at, put_amount}
 use Rattle.record.specs.Record.{operation_of, caller_of, token_of, other_of, flag_of, item_count_of, item_address}
 use Rattle.record.specs.Form.{reads_caller, reads_token, reads_other, reads_flag, reads_items, item_within, items_within, head_exceeds, items_exceed, form_rules, form_number}
 use Rattle.trial_records.specs.Trial.{Field, field, laid, Drawn, draws_from, trial_fields, record_of}
@@ -52,10 +52,14 @@ small_amount r at x e h =
     let s = small_halves x (le 8 r at) (le 8 r (at + 8)) (sym (le_split 8 8 r at) ∙ e) h in
     rw (s.0, s.1) refl
 
-pub small_put : (l : List ℕ) (at x : ℕ) → x < 2 ^ 64 → put 8 (put 8 l at x) (at + 8) 0 ≡ put 16 l at x
-small_put l at x h =
+-- an amount that is not negative is written as the number's sixteen bytes
+pub small_put : (l : List ℕ) (at x n : ℕ) → x < 2 ^ 64 → n ≡ bias + x → put_amount l at n ≡ put 16 l at x
+unfolding put_amount bias
+small_put l at x n h e =
     let z : x / 256 ^ 8 ≡ 0 = omega arith in
-    sym (put_split 8 8 l at x ∙ ap (put 8 (put 8 l at x) (at + 8)) z)
+    let lo : n % 2 ^ 64 ≡ x = omega (arith, e) in
+    let hi : (n / 2 ^ 64 + 2 ^ 63) % 2 ^ 64 ≡ 0 = omega (arith, e) in
+    rw (lo, hi) (sym (put_split 8 8 l at x ∙ ap (put 8 (put 8 l at x) (at + 8)) z))
 
 -- ---- what was drawn is within its bounds
 pub record Within (d : Drawn) : Type 0 where

@@ -1,4 +1,5 @@
 // Trial records (docs/FORMATS.md, "Trial records"): records of 448 bytes that any house makes from a starting number, for a load.
+// `as` stands where a number is known to fit, and from a place to a `u64`, for which there is no `From`.
 #![tactic(auto)]
 
 ghost use Rattle.std.specs.Prelude.{◌≡◌, ◌+◌, ◌*◌, ◌/◌, ◌%◌, ◌^◌, ◌<◌, ◌≤◌, length};
@@ -9,6 +10,7 @@ ghost use Rattle.trial_records.specs.Trial.{draws_from, laid, head_fields, trial
 ghost use Rattle.trial_records.specs.Parts.{draws_of};
 ghost use Rattle.trial_records.specs.Theorems.{TrialRecords};
 
+use amount::Amount;
 use record::{LENGTH, Record};
 use refusal::Refusal;
 
@@ -17,7 +19,7 @@ const MULTIPLIER: u64 = 6364136223846793005;
 const INCREMENT: u64 = 1442695040888963407;
 
 // The last record's number is below it.
-const RECORDS_END: u64 = 1 << 32;
+pub const RECORDS_END: u64 = 1 << 32;
 
 // The generator, by its last number.
 #[derive(Clone, Copy)]
@@ -71,16 +73,6 @@ fn six_draws(generator: &mut Generator) -> Draws
     }
 }
 
-// Below 2^64: the high half of the amount is zero.
-#[tactic(auto, using(crate::proofs::Fields::small_put))]
-fn put_amount(rec: &mut Record, at: usize, x: u64)
-    requires { at + 16 ≤ 448 }
-    ensures { rec.new ≡ put 16 rec.old at x }
-{
-    fields::put64(rec, at, x);
-    fields::put64(rec, at + 8, 0);
-}
-
 fn put_head(rec: &mut Record, d: Draws)
     ensures { rec.new ≡ laid rec.old (head_fields (draws_of d)) }
 {
@@ -92,6 +84,7 @@ fn put_head(rec: &mut Record, d: Draws)
     fields::put8(rec, 5, 1);
 }
 
+#[tactic(auto, using(crate::proofs::Fields::small_put))]
 fn put_record(rec: &mut Record, d: Draws, number: u32)
     ensures { rec.new ≡ laid rec.old (trial_fields (draws_of d) number) }
 {
@@ -99,9 +92,10 @@ fn put_record(rec: &mut Record, d: Draws, number: u32)
     fields::put64(rec, 8, u64::from(number));
     fields::put32(rec, 16, number);
     fields::put64(rec, 24, u64::MAX);
-    put_amount(rec, 32, d.amount);
+    let amount = Amount::from(d.amount);
+    amount::write_amount(rec, 32, amount);
     fields::put8(rec, 64, d.other);
-    put_amount(rec, 72, d.amount);
+    amount::write_amount(rec, 72, amount);
 }
 
 #[tactic(auto, unfolding(crate::specs::Trial::trial_record, crate::specs::Trial::record_of))]
@@ -135,10 +129,11 @@ fn trial_check(first: u64, bytes: usize) -> Result<(), Refusal>
     ensures { code result ≡ trial_number first bytes }
 {
     let count = (bytes / LENGTH) as u64;
-    if bytes % LENGTH != 0 || first == 0 || first > RECORDS_END || first + count > RECORDS_END {
-        return Err(Refusal::InvalidRecord);
-    }
-    Ok(())
+    let wrong = bytes % LENGTH != 0
+        || first == 0
+        || first > RECORDS_END
+        || first + count > RECORDS_END;
+    refusal::refuse_if(wrong, Refusal::InvalidRecord)
 }
 
 // Fills the buffer with records from number `first` on, and says which number of the generator the last draw reached.

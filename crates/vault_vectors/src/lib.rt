@@ -8,7 +8,6 @@ ghost use Rattle.journal.specs.Calls.{Call};
 ghost use Rattle.journal.specs.Step.{vault};
 ghost use Rattle.outcome.specs.Outcome.{value_of, count_of};
 ghost use Rattle.refusal.specs.Numbers.{code};
-ghost use Rattle.sha256.specs.Sha256.{sha256};
 ghost use Rattle.token_vault.specs.Vault.{vault_step};
 ghost use Rattle.token_vault.specs.Public.{JournalIs};
 ghost use Rattle.token_vault.specs.Preview.{Request, request_step};
@@ -44,22 +43,14 @@ impl fmt::Display for StepLine {
     }
 }
 
-fn digest(bytes: &[u8]) -> [u8; 32]
-    ensures { result ≡ sha256 bytes.now }
-{
-    let mut hash = [0u8; 32];
-    sha256::sha256(bytes, &mut hash);
-    hash
-}
-
 fn step_line(answer: outcome::Answer, events: &[u8], image: &[u8], journal: &[u8]) -> StepLine
     ensures { text_of result ++ (10 ∷ []) ≡ answer_words (code answer) (signed_at (amount_bytes (value_of answer))) (count_of answer) (digests events.now image.now journal.now) }
 {
     StepLine {
         answer: vault_program::printed(answer),
-        events_digest: digest(events),
-        image_digest: digest(image),
-        journal_digest: digest(journal),
+        events_digest: sha256::sha256(events),
+        image_digest: sha256::sha256(image),
+        journal_digest: sha256::sha256(journal),
     }
 }
 

@@ -1,12 +1,14 @@
 -- A read grows what stands at the start of the buffer.
-use Rattle.std.proofs.Common.{rules, arith, ◌≡◌, ◌≤◌, ℕ, ◌+◌, ◌-◌, List, ◌++◌, length, take, slice_range, sym, ap, ◌∙◌, subst, le_refl, drop_at, length-take-le}
+use Rattle.std.proofs.Common.{rules, arith, ◌≡◌, ◌≤◌, ℕ, Option, ◌+◌, ◌-◌, List, ◌++◌, length, take, slice_range, sym, ap, ◌∙◌, subst, le_refl, drop_at, length-take-le}
 use Rattle.std.proofs.lemmas.Slice.{take-put_mid_below}
-use Rattle.std.specs.Io.KnownBytes.{Consumes}
+use Rattle.std.specs.Prelude.{Result, Ok, Err, IfOk}
+use Rattle.std.specs.Result.{result_unwrap_or}
+use Rattle.std.specs.Counts.{IsPrefixLen}
+use Rattle.std.specs.Io.KnownBytes.{Consumes, ReadConsumes}
 use Rattle.std.proofs.KnownBytes.{Consumes-trans}
 use borrow.Rule.Slice.PartMut.{put_mid, post_of}
 use lib.Seq.{take-add, take-append-le}
 use Rattle.streams.proofs.read_full.Goals as goal
-use Rattle.streams.proofs.read_full.Goals.{in-Ok, in-Err}
 
 take_split : (a b : ℕ) (old new : List ℕ) → a ≤ b → take a new ≡ take a old → take a old ++ slice_range new a b ≡ take b new
 take_split a b old new h front =
@@ -19,18 +21,18 @@ slice_range-put_mid a k n xs ys within fits =
     let after = post_of a k xs in
     ap (take ((a + n) - a)) (drop_at (take a xs) (ys ++ after) a (length-take-le a xs within)) ∙ ap (λ m. take m (ys ++ after)) same ∙ take-append-le n ys after fits
 
+-- a count that is not 0 is what a read gave
+was_read : {E : Type 0} (old new : Option (List ℕ)) (r : Result ℕ E) (buf : List ℕ) (n : ℕ) → IfOk r (λ k. IsPrefixLen k buf) → ReadConsumes old new r buf → n ≡ result_unwrap_or r 0 → (n ≡ 0 → ⊥) → (n ≤ length buf) × Consumes old new (take n buf)
+was_read old new (Ok k) buf n bound bytes e h = rw e (bound.0, bytes.0)
+was_read old new (Err _) buf n bound bytes e h = absurd (h e)
+
 pub loop-done-preserved : goal.loop-done-preserved
 loop-done-preserved g c =
-    elim c.match-read.branch [
-      | in-Ok w ↦
-          let from = c.loop-done.done in
-          let n = c.match-read.n in
-          let room = length c.loop-done.buf - from in
-          let within = c.loop-done.invariant.1 in
-          let fits : n ≤ length c.read.new.buf = subst (λ k. k ≤ length c.read.new.buf) (sym w.n-is) w.in-Ok.ensures.bound.0 in
-          let more = subst (λ k. Consumes (g.R.Read.remaining c.loop-done.reader) (g.R.Read.remaining c.read.new.self) (take k c.read.new.buf)) (sym w.n-is) w.in-Ok.ensures.bytes.0 in
-          let part = slice_range-put_mid from room n c.loop-done.buf c.read.new.buf within fits in
-          let joined = take_split from (from + n) c.loop-done.buf (put_mid from room c.loop-done.buf c.read.new.buf) (omega arith) (take-put_mid_below _ _ _ _ _ (le_refl _) within) in
-          (search rules, search rules, subst (Consumes _ _) (ap (λ l. take from c.loop-done.buf ++ l) (sym part) ∙ joined) (Consumes-trans _ _ _ _ _ c.loop-done.invariant.2 more))
-      | in-Err w ↦ absurd (c.if-n-eq0.false w.n-is)
-    ]
+    let l = c.loop-done in
+    let n = c.unwrap_or-n.result in
+    let (fits, more) = was_read _ _ c.read.result c.read.new.buf n c.read.ensures.bound c.read.ensures.bytes c.unwrap_or-n.ensures c.if-n-eq0.false in
+    let room = length l.buf - l.done in
+    let within = l.invariant.1 in
+    let part = slice_range-put_mid l.done room n l.buf c.read.new.buf within fits in
+    let joined = take_split l.done (l.done + n) l.buf (put_mid l.done room l.buf c.read.new.buf) (omega arith) (take-put_mid_below _ _ _ _ _ (le_refl _) within) in
+    (search rules, search rules, subst (Consumes _ _) (ap (λ x. take l.done l.buf ++ x) (sym part) ∙ joined) (Consumes-trans _ _ _ _ _ l.invariant.2 more))

@@ -6,4 +6,4 @@ use Rattle.vault_vectors.proofs.step_line.Goals as goal
 
 pub returns : goal.returns
 unfolding text_of digests digest_text answer_words
-returns c = let p = c.printed.ensures in simp (append_assoc, p.0, p.1, p.2, c.digest.ensures, c.digest-2.ensures, c.digest-3.ensures) refl
+returns c = let p = c.printed.ensures in simp (append_assoc, p.0, p.1, p.2, c.sha256.ensures, c.sha256-2.ensures, c.sha256-3.ensures) refl
