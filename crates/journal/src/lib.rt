@@ -98,8 +98,10 @@ fn good_entries(journal: &[u8], cells: usize, counts: Counts) -> bool
     let mut next = 0;
     for entry in &places[1..counts.entries + 1] {
         let head = read_entry_head(entry);
-        let ordered = in_order(head, cells, counts.calls, last, next);
-        if !(ordered & fields::are_zero(&entry[4..8])) {
+        if !in_order(head, cells, counts.calls, last, next) {
+            return false;
+        }
+        if !fields::are_zero(&entry[4..8]) {
             return false;
         }
         last = head.call;
@@ -242,13 +244,11 @@ fn place_at(n: usize, len: usize) -> usize
     len.min(24 * n)
 }
 
-// Whether two cells have the same two words.
+#[tactic(auto, using(crate::proofs::Stretches::pointwise_same))]
 fn same_cell(old: &[u8; 16], new: &[u8; 16]) -> bool
     ensures { result ≡ same_bytes_of old.now new.now }
 {
-    let low = fields::get64(old, 0) == fields::get64(new, 0);
-    let high = fields::get64(old, 8) == fields::get64(new, 8);
-    low & high
+    old == new
 }
 
 // Writes an entry for each cell that changed, as far as there are places, and counts them all. `same` tells whether two cells are the same.

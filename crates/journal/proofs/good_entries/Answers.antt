@@ -2,31 +2,35 @@
 use Rattle.std.proofs.Common.{◌+◌, ◌-◌, ◌*◌, sym, ◌∙◌, length, arith}
 use Rattle.fields.specs.Zeros.{zeros_part}
 use Rattle.journal.proofs.Chunks.{entry_of}
-use Rattle.journal.proofs.Scanned.{turn_stops, turn_goes, turn_ends}
+use Rattle.journal.proofs.Scanned.{turn_unordered, turn_unclear, turn_goes, turn_ends}
 use Rattle.journal.proofs.good_entries.Goals as goal
 
-pub returns-then-not-ordered-are_zero : goal.returns-then-not-ordered-are_zero
-returns-then-not-ordered-are_zero c =
+pub returns-then-not-in_order : goal.returns-then-not-in_order
+returns-then-not-in_order c =
     let a = c.args in
-    let j = a.journal.now in
-    let n = a.counts.entries in
     let l = c.loop-entry in
     let i = l.entry-index in
     let h = c.read_entry_head-head in
-    turn_stops j a.cells a.counts.calls n i l.last l.next h.result.cell h.result.call (omega arith) (entry_of 1 (n + 1) i (i + 1) j c.as_chunks.ensures.front (omega arith) (omega arith) (omega arith))
-    h.ensures.cell h.ensures.call c.in_order-ordered.ensures c.are_zero.ensures c.if-not-ordered-are_zero.true ∙ l.invariant
+    let e = entry_of 1 (a.counts.entries + 1) i (i + 1) a.journal.now c.as_chunks.ensures.front (omega arith) (omega arith) (omega arith) in
+    turn_unordered a.journal.now a.cells a.counts.calls a.counts.entries i l.last l.next h.result.cell h.result.call (omega arith) e h.ensures.cell h.ensures.call (sym c.if-not-in_order.ensures) ∙ l.invariant
+
+pub returns-then-not-are_zero : goal.returns-then-not-are_zero
+returns-then-not-are_zero c =
+    let a = c.args in
+    let l = c.loop-entry in
+    let i = l.entry-index in
+    let h = c.read_entry_head-head in
+    let e = entry_of 1 (a.counts.entries + 1) i (i + 1) a.journal.now c.as_chunks.ensures.front (omega arith) (omega arith) (omega arith) in
+    turn_unclear a.journal.now a.cells a.counts.calls a.counts.entries i l.last l.next h.result.cell h.result.call (omega arith) e h.ensures.cell h.ensures.call (sym c.if-not-in_order.ensures) (sym c.if-not-are_zero.ensures) ∙ l.invariant
 
 pub loop-entry-preserved : goal.loop-entry-preserved
 loop-entry-preserved c =
     let a = c.args in
-    let j = a.journal.now in
-    let n = a.counts.entries in
     let l = c.loop-entry in
     let i = l.entry-index in
     let h = c.read_entry_head-head in
-    rw c.from-next.ensures
-    (turn_goes j a.cells a.counts.calls n i l.last l.next h.result.cell h.result.call (omega arith) (entry_of 1 (n + 1) i (i + 1) j c.as_chunks.ensures.front (omega arith) (omega arith) (omega arith))
-    h.ensures.cell h.ensures.call c.in_order-ordered.ensures c.are_zero.ensures c.if-not-ordered-are_zero.false ∙ l.invariant)
+    let e = entry_of 1 (a.counts.entries + 1) i (i + 1) a.journal.now c.as_chunks.ensures.front (omega arith) (omega arith) (omega arith) in
+    rw c.from-next.ensures (turn_goes a.journal.now a.cells a.counts.calls a.counts.entries i l.last l.next h.result.cell h.result.call (omega arith) e h.ensures.cell h.ensures.call (sym c.if-not-in_order.ensures) (sym c.if-not-are_zero.ensures) ∙ l.invariant)
 
 pub returns : goal.returns
 returns c =
