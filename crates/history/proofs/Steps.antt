@@ -12,7 +12,7 @@ use Rattle.journal.specs.Journal.{Contents, bytes_of, contents_of, room, journal
 use Rattle.journal.specs.Changed.{CellsEntered}
 use Rattle.journal.specs.Step.{vault, reply, begun, committed, rolled_back, undone, last_undone, outcome, operated, step}
 use Rattle.journal.proofs.Written.{sound}
-use Rattle.journal.proofs.States.{fresh, fresh_good, fresh_contents, zeros_good, zeros_contents, begun_open, begun-closed, committed_open, committed-closed, rolled_closed, undone_open, undone-closed, begun_rolled, entered_good, entered-undone, entered_rolled}
+use Rattle.journal.proofs.States.{fresh, fresh_good, fresh_contents, zeros_good, zeros_contents, begun_open, begun-closed, committed_open, committed_closed, rolled_closed, undone_open, undone_closed, begun_rolled, entered_good, entered-undone, entered_rolled}
 use Rattle.journal.proofs.Exact.{cells-entered}
 use Rattle.journal.proofs.Dispatch.{step_operation, step_begin, step_commit, step_rollback, step_undo}
 use Rattle.journal.proofs.Refusals.{view_keeps, step-refused}
@@ -91,7 +91,7 @@ module _ (cells : ℕ) (good_image : List ℕ → Bool) (op : List ℕ → List 
   begin_good s g o = rw (begin_is s g o) (fresh_state s g)
 
   closed_undo : (s : State) → G s → ok St s begin → ok St s undo → ⊥
-  closed_undo s g o u = no_zero (rw (undoes s g, undone-closed s (begin_closed s g o)) at u)
+  closed_undo s g o u = no_zero (rw (undoes s g, undone_closed s (begin_closed s g o)) at u)
 
   closed_roll : (s : State) → G s → ok St s begin → ok St s rollback → ⊥
   closed_roll s g o u = no_zero (rw (rolls s g, rolled_closed s (begin_closed s g o)) at u)
@@ -116,7 +116,7 @@ module _ (cells : ℕ) (good_image : List ℕ → Bool) (op : List ℕ → List 
     where
       go : (t : Bool) → (contents_of s.journal).opened ≡ t → (contents_of s.journal).opened ≡ true
       go true e = e
-      go false e = no_zero (rw (commits s g, committed-closed s e) at o)
+      go false e = no_zero (rw (commits s g, committed_closed s e) at o)
 
   commit_is : (s : State) → G s → ok St s commit → St s commit ≡ reply 0 [] (vault s.image (replicate (length s.journal) 0))
   commit_is s g o = commits s g ∙ committed_open s (commit_open s g o)
@@ -185,7 +185,7 @@ module _ (cells : ℕ) (good_image : List ℕ → Bool) (op : List ℕ → List 
       go : Did cells s (op s.image r e) (St s (operation r e)) → (St (St s (operation r e)).state undo).state ≡ s
       go (outside c z x) =
           let t = vault (op s.image r e).image s.journal in
-          no_zero (rw (x, undoes t (H.keeps s.image r e g.0 z, g.1), undone-closed t c) at u)
+          no_zero (rw (x, undoes t (H.keeps s.image r e g.0 z, g.1), undone_closed t c) at u)
       go (inside c z f x) =
           rw (
             x,

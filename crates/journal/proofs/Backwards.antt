@@ -1,13 +1,26 @@
 -- The entries of a good journal as they are read from its bytes, and the two walks over them from the last one on.
-use mathlib.Core.Path.{◌≡◌, refl, sym, ap, ◌∙◌}
+use mathlib.Core.Path.{◌≡◌, refl, sym, ap, ◌∙◌, subst}
 use mathlib.Core.Bool.{true}
-use mathlib.Core.List.{List, [], ◌∷◌, ◌++◌, append-nil}
-use Prim.Native.Nat.{ℕ, zero, suc, ◌+◌, ◌*◌, ◌-◌, ◌≤◌, ◌<◌}
+use mathlib.Core.List.{List, [], ◌∷◌, ◌++◌, append-nil, reverse}
+use Prim.Native.Nat.{ℕ, zero, suc, ◌+◌, ◌*◌, ◌-◌, ◌/◌, ◌≤◌, ◌<◌}
 use native.Mathlib.Omega.{arith}
 use lib.Dec.{eqb}
-use lib.ListN.{length, get_or, take, drop, take-append-drop}
+use lib.ListN.{length, get_or, take, drop, take-append-drop, length-take, length-drop}
 use lib.Seq.{take-suc, drop-cons, drop-drop, drop-length}
 use borrow.Author.Tests.{eq-eqb}
+use denote.Param.Members.{Mut}
+use Rattle.std.specs.Prelude.{Option, None, Some, Bool, false}
+use Rattle.std.specs.Fn.{Called}
+use Rattle.std.specs.Iterator.{YieldsThen, FindsPositionBack}
+use Rattle.std.specs.List.{FoldsTo, AllWithin, HoldsAt}
+use Rattle.std.specs.Option.{MatchOption, IsSomeAnd}
+use Rattle.std.specs.Slice.Iter.{iter_rest, iter_steps_back}
+use Rattle.std.proofs.Common.{Iter}
+use Rattle.std.proofs.lemmas.Iterator.{YieldsList, IsFirst-from_position}
+use Rattle.std.proofs.lemmas.Iterator.Consumers.{YieldsList-from_shown}
+use Rattle.std.proofs.lemmas.List.{reverse-append, length-reverse, get_or-reverse}
+use Rattle.fields.specs.Chunks.{le_part}
+use Rattle.journal.proofs.Chunks.{entries_of, entry_of}
 use Rattle.fields.specs.Bytes.{le, le-drop}
 use Rattle.journal.specs.Journal.{Entry, read_entry, read_entries, contents_of, ordered, good_journal, put_back, restore, of_call, except_call}
 use Rattle.journal.specs.Parts.{Earlier}
@@ -171,3 +184,59 @@ module _ (cells : ℕ) (j : List ℕ) (g : good_journal cells j ≡ true) (k : �
       stops_at (contents_of j).calls es k l t
       (rw cut
       (earlier_all cells (contents_of j).calls 0 0 (take (k - 1) es) (get_or es (k - 1) none) (rw cut at o) (λ q. n (read_call j k h l ∙ q)) (sane cells j g k h l).most))
+
+-- ---- the same by `rposition`, which asks the entries from the last on: of `all`, which are n in reverse, the last one with Yes
+abbrev LastYes : (Yes No : List ℕ → Type 0) (n : ℕ) (all : List (List ℕ)) → Option ℕ → Type 0
+LastYes Yes No n all r = MatchOption r (AllWithin No all 0 (length all)) (λ i. (i < n) × HoldsAt Yes all (n - 1 - i) × AllWithin No all 0 (n - 1 - i))
+
+module _ {S A F : Type 0} {steps : S → Option A → S → Type 0} {v : A → List ℕ} {g : Mut F (A × Unit {0}) Bool} {s u : S} {f : F} {all : List (List ℕ)} (Yes No : List ℕ → Type 0) (n : ℕ)
+    (list : YieldsList steps v s all) (yes : (x : A) (q : F) → Called g f (x, tt) true q → Yes (v x)) (no : (x : A) (q : F) → Called g f (x, tt) false q → (q ≡ f) × No (v x)) where
+  last_at : (r : Option ℕ) (xs : List A) (j : F) (o : Option A) → YieldsThen steps s xs o u → FoldsTo (λ p x q. Called g p (x, tt) false q) f xs j
+      → MatchOption o (r ≡ None) (λ x. IsSomeAnd r (λ i. i + 1 + length xs ≡ n) × ((h : F) × Called g j (x, tt) true h)) → LastYes Yes No n all r
+  last_at r xs j None y c e = subst (LastYes Yes No n all) (sym e) (IsFirst-from_position u f None Yes No (xs, None, j, y, c, refl) list yes no)
+  last_at None xs j (Some x) y c e = absurd e.0
+  last_at (Some i) xs j (Some x) y c e =
+      let k = IsFirst-from_position u f (Some (length xs)) Yes No (xs, Some x, j, y, c, (refl, e.1)) list yes no in
+      let m : length xs ≡ n - 1 - i = omega (arith, e.0) in
+      subst (λ q. (i < n) × HoldsAt Yes all q × AllWithin No all 0 q) m (omega (arith, e.0), k.1, k.2)
+
+  pub last_yes : (r : Option ℕ) (m : ℕ) → m ≡ n → FindsPositionBack steps g s f m r u → LastYes Yes No n all r
+  last_yes r m e d = let w = subst (λ i. FindsPositionBack steps g s f i r u) e d in last_at r w.0 w.2 w.1 w.3 w.4 w.5
+
+pub list_back : {s : Iter (List ℕ)} (xs : List (List ℕ)) → iter_rest s ≡ xs → YieldsList iter_steps_back (λ y. y.now) s (reverse xs)
+list_back {s} xs e = subst (λ k. YieldsList iter_steps_back (λ y. y.now) s (reverse k)) e
+    (YieldsList-from_shown iter_steps_back (λ y. y.now) (λ u. reverse (iter_rest u)) (λ u t p. length-reverse _ ∙ p.0)
+    (λ u x t p. ap reverse p ∙ reverse-append (iter_rest t) (x.now ∷ [])) s)
+
+module _ (cells : ℕ) (j : List ℕ) (g : good_journal cells j ≡ true) (c n : ℕ) (ec : c ≡ (contents_of j).calls) (en : n ≡ length (contents_of j).entries) {ps : List (List ℕ)} (e : ps ≡ entries_of j) (long : length ps ≡ length j / 24) where
+  walked_long : length (reverse (take (n + 1 - 1) (drop 1 ps))) ≡ n
+  walked_long =
+      let r = good_room cells j g in
+      length-reverse (take (n + 1 - 1) (drop 1 ps)) ∙ length-take (n + 1 - 1) (drop 1 ps) ∙ omega (arith, length-drop 1 ps)
+
+  -- the i-th entry's call, as the walk reads it
+  call_of : (i : ℕ) → i < n → le 2 (get_or (reverse (take (n + 1 - 1) (drop 1 ps))) (n - 1 - i) []) 2 ≡ le 2 j (24 * (i + 1) + 2)
+  call_of i h =
+      let r = good_room cells j g in
+      let es = take (n + 1 - 1) (drop 1 ps) in
+      let l : length es ≡ n = length-take (n + 1 - 1) (drop 1 ps) ∙ omega (arith, length-drop 1 ps) in
+      let k : length es - 1 - (n - 1 - i) ≡ i = omega arith in
+      let b : get_or (reverse es) (n - 1 - i) [] ≡ take 24 (drop (24 * (i + 1)) j) = get_or-reverse es (n - 1 - i) [] (omega arith) ∙ rw k (entry_of 1 (n + 1) i (i + 1) j e (omega arith) (omega arith) (omega arith)) in
+      rw b (le_part 2 24 (24 * (i + 1)) 2 j (omega arith))
+
+  taken_down : (m k : ℕ) → k + m ≡ n → ((i : ℕ) → k ≤ i → i < n → le 2 j (24 * (i + 1) + 2) ≡ c) → Taken (contents_of j).calls (contents_of j).entries k
+  taken_down zero k s h = none_taken _ _ k (omega arith)
+  taken_down (suc m) k s h =
+      let a : 24 * (k + 1) + 2 ≡ 24 * suc k + 2 = omega arith in
+      let b : suc k - 1 ≡ k = omega arith in
+      rw b at (call_turn cells j g (suc k) (omega arith) (omega arith) (rw a at (h k (omega arith) (omega arith)) ∙ ec) (taken_down m (suc k) (omega arith) (λ i p q. h i (omega arith) q)))
+
+  pub earlier_of : (r : Option ℕ) (k : ℕ) → LastYes (λ b. le 2 b 2 ≡ c → ⊥) (λ b. le 2 b 2 ≡ c) n (reverse (take (n + 1 - 1) (drop 1 ps))) r → MatchOption r (k ≡ 0) (λ i. k ≡ i + 1)
+      → Earlier c (contents_of j).entries k
+  unfolding of_call except_call
+  earlier_of None k h d =
+      let t = taken_down n 0 (omega arith) (λ i p q. sym (call_of i q) ∙ h (n - 1 - i) [] (omega arith) (omega (arith, walked_long))) in
+      rw (ec, d) (stops_at (contents_of j).calls (contents_of j).entries 0 (omega arith) t (refl, refl))
+  earlier_of (Some i) k h d =
+      let t = taken_down (n - (i + 1)) (i + 1) (omega (arith, h.0)) (λ m p q. sym (call_of m q) ∙ h.2 (n - 1 - m) [] (omega arith) (omega (arith, h.0))) in
+      rw (ec, d) (stops_other cells j g (i + 1) (omega arith) (omega (arith, h.0)) (λ z. h.1 [] (call_of i h.0 ∙ z ∙ sym ec)) t)

@@ -1,7 +1,7 @@
 -- Entering an operation: its changed cells behind the entries that there are, and what its three ways out leave.
-use mathlib.Core.Path.{◌≡◌, sym, ap, ◌∙◌}
+use mathlib.Core.Path.{◌≡◌, refl, sym, ap, ◌∙◌}
 use mathlib.Core.Logic.{inl}
-use mathlib.Core.Bool.{true, false}
+use mathlib.Core.Bool.{Bool, true, false}
 use mathlib.Core.List.{List, ◌++◌, append_assoc}
 use Prim.Native.Nat.{ℕ, suc, ◌+◌, ◌*◌, ◌-◌, ◌/◌, ◌≤◌, ◌<◌}
 use native.Mathlib.Numerals.{add-one}
@@ -11,6 +11,7 @@ use lib.Seq.{take_all, take-append-add, drop-drop}
 use borrow.Author.Tests.{lt-leb, le-leb}
 use Rattle.fields.specs.Logic.{and_i, and_false, false_and}
 use Rattle.fields.specs.Bytes.{put}
+use Rattle.fields.specs.Rules.{pick}
 use Rattle.journal.specs.Journal.{entries_bytes, layout, bytes_of, contents_of, ordered, changed, entered, room, journal_after}
 use Rattle.journal.specs.Parts.{GoodOpen, Enters, Counted, places, over, Found}
 use Rattle.journal.proofs.Written.{good_long, good_short, good_order, good_room}
@@ -66,11 +67,13 @@ module _ (cells : ℕ) (old new j : List ℕ) (a : GoodOpen cells old new j) whe
 -- ---- the ways out
 module _ (cells : ℕ) (old new j : List ℕ) (a : GoodOpen cells old new j) where
   -- 1,000 calls would be passed
-  pub enter_calls : 1000 ≤ (contents_of j).calls → Enters cells old new j 34 j
+  pub enter_calls : {k : ℕ} (t : Bool) → k ≡ pick t 34 0 → (k ≡ 0 → ⊥) → (t ≡ true → 1000 ≤ (contents_of j).calls) → Enters cells old new j k j
   unfolding room
-  enter_calls h =
+  enter_calls false s n h = absurd (n s)
+  enter_calls true s n h =
+      let l = h refl in
       let e : room cells old new j ≡ false = rw (lt-leb (suc (contents_of j).calls) 1000 (omega arith)) (false_and _) in
-      record { fitted = rw e; written = rw e }
+      record { fitted = rw e s; written = rw e }
 
   -- more entries than there are places: those that were written are zeroed
   pub enter_full : (r : ℕ) (after : List ℕ) → Counted cells old new j r after → length j < 24 * (r + 1)
@@ -99,10 +102,10 @@ module _ (cells : ℕ) (old new j : List ℕ) (a : GoodOpen cells old new j) whe
       record { fitted = rw e; written = rw e (rw (m, t, ← held) at z ∙ sym (laid_out cells j a.good)) }
 
   -- all is written, and the counts last
-  pub enter-done : (r c : ℕ) (after : List ℕ) → Counted cells old new j r after → 24 * (r + 1) ≤ length j → c ≡ (contents_of j).calls → c < 1000
+  pub enter_done : (r c : ℕ) (after : List ℕ) → Counted cells old new j r after → 24 * (r + 1) ≤ length j → c ≡ (contents_of j).calls → c < 1000
       → Enters cells old new j 0 (put 2 (put 2 after 2 (c + 1)) 4 r)
   unfolding room places journal_after bytes_of entered
-  enter-done r c after q h ec k =
+  enter_done r c after q h ec k =
       let p = contents_of j in
       let P = length j / 24 - 1 in
       let more = changed (suc p.calls) cells 0 old new in

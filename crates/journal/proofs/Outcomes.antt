@@ -24,6 +24,11 @@ begin_done cells x j g o =
     ap (λ k. set k 0 1) (sym (sound cells j g).exact ∙ ap (bytes_of (length j)) p) ∙ opens (length j) in
     ap (λ k. reply 0 [] (vault x k)) e ∙ sym (begun-closed (vault x j) o)
 
+-- undo with no call
+pub undo_none : (x j : List ℕ) → (contents_of j).opened ≡ true → (contents_of j).calls ≡ 0 → undone (vault x j) ≡ reply 37 [] (vault x j)
+unfolding last_undone
+undo_none x j o e = undone_open (vault x j) 0 o e
+
 module _ (cells : ℕ) (j : List ℕ) (g : good_journal cells j ≡ true) where
   -- a good journal, as a layout of its entries
   pub laid_out : j ≡ layout (length j) (contents_of j).opened (contents_of j).calls (length (contents_of j).entries) (contents_of j).entries

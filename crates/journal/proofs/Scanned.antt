@@ -11,6 +11,7 @@ use lib.ListN.{length, get_or, take, drop, replicate, length-take, length-drop, 
 use lib.Seq.{drop-cons, drop-drop, get_or-drop, get_or-take, drop_at, ext_get_or, length-take-le}
 use borrow.Author.Tests.{eqb-true, eqb-false, leb-true, eq-eqb}
 use Rattle.fields.specs.Logic.{◌and◌, and_l, and_r, and_i, true_and, false_and}
+use Rattle.fields.specs.Chunks.{le_part, zeros_of}
 use Rattle.fields.specs.Bytes.{le, le-drop}
 use Rattle.fields.specs.Rules.{pick}
 use Rattle.fields.specs.Same.{same_refl}
@@ -193,24 +194,31 @@ zeros-drop : (b : List ℕ) (n at m : ℕ) → zeros (drop n b) at m ≡ zeros b
 unfolding zeros
 zeros-drop b n at m = rw (drop-drop at n b)
 
-module _ (j : List ℕ) (cells calls count i last next cell call : ℕ) (in_turn blank : Bool) (h : i < count) (ce : cell ≡ le 2 j (24 * (i + 1)))
-    (ca : call ≡ le 2 j (24 * (i + 1) + 2)) (pa : in_turn ≡ in_order_of cells calls last next cell call) (pb : blank ≡ zeros j (24 * (i + 1) + 4) 4) where
+-- b is the entry that the turn looks at
+module _ (j : List ℕ) (cells calls count i last next cell call : ℕ) {b : List ℕ} (h : i < count) (eb : b ≡ take 24 (drop (24 * (i + 1)) j)) (ce : cell ≡ le 2 b 0) (ca : call ≡ le 2 b 2) where
   turn : scan_entries cells calls (count - i) last next (drop (24 * suc i) j)
-      ≡ (in_turn and blank) and scan_entries cells calls (count - (i + 1)) call (cell + 1) (drop (24 * suc (i + 1)) j)
+      ≡ (in_order_of cells calls last next cell call and zeros (take 4 (drop 4 b)) 0 (length (take 4 (drop 4 b)))) and scan_entries cells calls (count - (i + 1)) call (cell + 1) (drop (24 * suc (i + 1)) j)
   unfolding scan_entries
   turn =
       let n : count - i ≡ suc (count - (i + 1)) = omega arith in
       let a : 24 * suc i ≡ 24 * (i + 1) = omega arith in
       let z : 24 * (i + 1) + 0 ≡ 24 * (i + 1) = omega arith in
       let m : 24 * (i + 1) + 24 ≡ 24 * suc (i + 1) = omega arith in
-      rw (n, a, le-drop 2 j (24 * (i + 1)) 0, le-drop 2 j (24 * (i + 1)) 2, zeros-drop j (24 * (i + 1)) 4 4, drop-drop 24 (24 * (i + 1)) j, z, m, ← ce, ← ca, ← pa, ← pb, add-one cell)
+      let x : cell ≡ le 2 j (24 * (i + 1)) = ce ∙ rw (eb, le_part 2 24 (24 * (i + 1)) 0 j (omega arith), z) refl in
+      let y : call ≡ le 2 j (24 * (i + 1) + 2) = ca ∙ rw eb (le_part 2 24 (24 * (i + 1)) 2 j (omega arith)) in
+      let w : zeros (take 4 (drop 4 b)) 0 (length (take 4 (drop 4 b))) ≡ zeros j (24 * (i + 1) + 4) 4 = rw eb (zeros_of 4 24 (24 * (i + 1)) 4 j (omega arith)) in
+      rw (n, a, le-drop 2 j (24 * (i + 1)) 0, le-drop 2 j (24 * (i + 1)) 2, zeros-drop j (24 * (i + 1)) 4 4, drop-drop 24 (24 * (i + 1)) j, z, m, ← x, ← y, ← w, add-one cell)
 
-  pub turn_stops : in_turn and blank ≡ false → false ≡ scan_entries cells calls (count - i) last next (drop (24 * suc i) j)
-  turn_stops e = sym (turn ∙ rw e (false_and _))
+  pub turn_unordered : in_order_of cells calls last next cell call ≡ false → false ≡ scan_entries cells calls (count - i) last next (drop (24 * suc i) j)
+  turn_unordered o = sym (turn ∙ rw (o, false_and, false_and))
 
-  pub turn_goes : in_turn and blank ≡ true
+  pub turn_unclear : in_order_of cells calls last next cell call ≡ true → zeros (take 4 (drop 4 b)) 0 (length (take 4 (drop 4 b))) ≡ false
+      → false ≡ scan_entries cells calls (count - i) last next (drop (24 * suc i) j)
+  turn_unclear o z = sym (turn ∙ rw (o, z, true_and, false_and))
+
+  pub turn_goes : in_order_of cells calls last next cell call ≡ true → zeros (take 4 (drop 4 b)) 0 (length (take 4 (drop 4 b))) ≡ true
       → scan_entries cells calls (count - (i + 1)) call (cell + 1) (drop (24 * suc (i + 1)) j) ≡ scan_entries cells calls (count - i) last next (drop (24 * suc i) j)
-  turn_goes e = sym (turn ∙ rw e (true_and _))
+  turn_goes o z = sym (turn ∙ rw (o, z, true_and, true_and))
 
 pub turn_ends : (j : List ℕ) (cells calls count i last next : ℕ) → i ≤ count → count ≤ i → 24 * suc count ≤ length j
     → zeros j (24 * (count + 1)) (length j - 24 * (count + 1)) ≡ scan_entries cells calls (count - i) last next (drop (24 * suc i) j)

@@ -92,9 +92,9 @@ module _ (s : State) where
   unfolding committed
   committed_open o = rw o
 
-  pub committed-closed : (contents_of s.journal).opened ≡ false → committed s ≡ reply 35 [] s
+  pub committed_closed : (contents_of s.journal).opened ≡ false → committed s ≡ reply 35 [] s
   unfolding committed
-  committed-closed o = rw o
+  committed_closed o = rw o
 
   pub rolled_open : (contents_of s.journal).opened ≡ true
       → rolled_back s ≡ reply 0 [] (vault (restore (contents_of s.journal).entries s.image) (replicate (length s.journal) 0))
@@ -110,9 +110,9 @@ module _ (s : State) where
   unfolding undone
   undone_open n o e = rw (o, e)
 
-  pub undone-closed : (contents_of s.journal).opened ≡ false → undone s ≡ reply 35 [] s
+  pub undone_closed : (contents_of s.journal).opened ≡ false → undone s ≡ reply 35 [] s
   unfolding undone
-  undone-closed o = rw o
+  undone_closed o = rw o
 
 -- begin and then rollback: the state before
 pub begun_rolled : (cells : ℕ) (s : State) → good_journal cells s.journal ≡ true → (contents_of s.journal).opened ≡ false

@@ -1,5 +1,5 @@
 -- The changed cells of an image in parts, and their entries written into places one part behind the other.
-use mathlib.Core.Path.{◌≡◌, refl, sym, ap, ap₂, ◌∙◌}
+use mathlib.Core.Path.{◌≡◌, refl, sym, ap, ◌∙◌}
 use mathlib.Core.Logic.{inr}
 use mathlib.Core.Bool.{Bool, true, false}
 use mathlib.Core.List.{List, [], ◌∷◌, ◌++◌, append_assoc, append-nil}
@@ -7,14 +7,13 @@ use Prim.Native.Nat.{ℕ, zero, suc, ◌+◌, ◌*◌, ◌-◌, ◌/◌, ◌≤�
 use native.Mathlib.Nat.{zero-add, add-zero, suc-add}
 use native.Mathlib.Omega.{arith}
 use lib.Dec.{eqb, leb}
-use lib.ListN.{length, get_or, take, drop, length-append, length-take, length-drop, take-append-drop, drop_of_length-le}
+use lib.ListN.{length, take, drop, length-append, length-take, length-drop, take-append-drop, drop_of_length-le}
 use lib.Seq.{take_all, take_at, drop_at, take-take, take-append-le, take-append-add, drop-drop}
 use borrow.Author.Tests.{leb-true, leb-false, le-leb}
-use Rattle.fields.specs.Bytes.{le}
-use Rattle.fields.specs.Logic.{◌and◌}
+use Rattle.std.specs.Cmp.Lexicographic.{pointwise}
+use Rattle.fields.specs.Logic.{and_is}
 use Rattle.fields.specs.Rules.{pick}
-use Rattle.fields.specs.Same.{same_bytes_of, same_is, same_refl, same-append}
-use Rattle.fields.proofs.Loops.{le_same}
+use Rattle.fields.specs.Same.{same_bytes_of, same_is, same_refl}
 use Rattle.journal.specs.Journal.{Entry, entry_bytes, entries_bytes, changed}
 use Rattle.journal.specs.Parts.{place_at, over, Found}
 use Rattle.fields.specs.Chunks.{drop_take}
@@ -23,15 +22,13 @@ use Rattle.journal.proofs.Cells.{changed_order}
 use Rattle.journal.proofs.Backwards.{order_front}
 use Rattle.journal.proofs.Layouts.{entries_append}
 
--- ---- two words of each cell
-pub two_words : (a b : List ℕ) → ((i : ℕ) → get_or a i 0 < 256) → ((i : ℕ) → get_or b i 0 < 256) → length a ≡ 16 → length b ≡ 16
-    → eqb (le 8 a 0) (le 8 b 0) and eqb (le 8 a 8) (le 8 b 8) ≡ same_bytes_of a b
-two_words a b ha hb la lb =
-    let l : length (take 8 a) ≡ length (take 8 b) = simp length-take (omega arith) in
-    let ta : take 8 (drop 8 a) ≡ drop 8 a = take_all 8 (drop 8 a) (simp length-drop (omega arith)) in
-    let tb : take 8 (drop 8 b) ≡ drop 8 b = take_all 8 (drop 8 b) (simp length-drop (omega arith)) in
-    rw (le_same 8 a b 0 ha hb (omega arith) (omega arith), le_same 8 a b 8 ha hb (omega arith) (omega arith), ta, tb)
-    (sym (same-append (take 8 a) (take 8 b) (drop 8 a) (drop 8 b) l) ∙ ap₂ same_bytes_of (take-append-drop 8 a) (take-append-drop 8 b))
+-- what `==` of two cells says
+pub pointwise_same : (a b : List ℕ) → pointwise eqb a b ≡ same_bytes_of a b
+unfolding same_bytes_of
+pointwise_same [] [] = refl
+pointwise_same [] (y ∷ b) = refl
+pointwise_same (x ∷ a) [] = refl
+pointwise_same (x ∷ a) (y ∷ b) = rw (and_is, pointwise_same a b) refl
 
 -- ---- the changed cells
 -- of m cells and of n cells behind them

@@ -8,12 +8,28 @@ use native.Mathlib.Omega.{arith}
 use lib.Dec.{eqb, leb, ltb}
 use lib.ListN.{length, get_or, take, drop, replicate, length-append, length-replicate}
 use lib.Seq.{take_at, drop_at}
-use borrow.Author.Tests.{eqb-true, leb-true, ltb-true, eq-eqb, le-leb, lt-ltb}
-use Rattle.fields.specs.Logic.{◌or◌, and_l, and_r, and_i, or_l, or_r}
+use borrow.Author.Tests.{eqb-true, leb-true, ltb-true, eq-eqb, ne_eqb, le-leb, lt-leb, lt-ltb, le-ltb}
+use Rattle.fields.specs.Logic.{◌or◌, and_l, and_r, and_i, or_l, or_r, and_is, or_is, and_assoc, false_and, true_and, and_false}
 use Rattle.fields.specs.Bytes.{le}
 use Rattle.fields.specs.Rules.{pick}
 use Rattle.fields.specs.Same.{same_is, same_refl}
 use Rattle.journal.specs.Journal.{Entry, Contents, entry_bytes, entries_bytes, layout, bytes_of, read_entries, contents_of, ordered, valid, fits, good_journal}
+
+-- what is known of a test, for those that are joined by `and` and `or`
+pub true_or : (a : Bool) → true or a ≡ true
+unfolding ◌or◌
+true_or a = refl
+
+pub false_or : (a : Bool) → false or a ≡ a
+unfolding ◌or◌
+false_or a = refl
+
+pub or_false : (a : Bool) → a or false ≡ a
+unfolding ◌or◌
+or_false true = refl
+or_false false = refl
+
+pub ruleset known_tests = (and_is, or_is, and_assoc, false_and, true_and, and_false, false_or, true_or, or_false, lt-ltb, le-ltb, le-leb, lt-leb, eq-eqb, ne_eqb)
 
 pub or_out : (a b : Bool) → a or b ≡ true → (a ≡ true) ⊎ (b ≡ true)
 unfolding ◌or◌

@@ -15,15 +15,15 @@ use refusal::Refusal;
 // The numbers of a head: the calls and the entries that it counts.
 #[derive(Clone, Copy)]
 struct Counts {
-    calls: usize,
+    calls: u16,
     entries: usize,
 }
 
 // The numbers of an entry: its cell, and the call that changed it.
 #[derive(Clone, Copy, Debug, PartialEq, Eq)]
 pub struct EntryHead {
-    pub cell: usize,
-    pub call: usize,
+    pub cell: u16,
+    pub call: u16,
 }
 
 // Cells that stand side by side, the number of the first of them, and the call that they are entered for.
@@ -31,15 +31,7 @@ pub struct EntryHead {
 pub struct Span {
     pub cells: usize,
     pub first: usize,
-    pub call: usize,
-}
-
-// The two-byte number at a place.
-fn number_at(journal: &[u8], at: usize) -> usize
-    requires { at + 2 ≤ length journal.now }
-    ensures { (result ≡ le 2 journal.now at) × (result < 65536) }
-{
-    usize::from(fields::get16(journal, at))
+    pub call: u16,
 }
 
 #[tactic(auto, using(crate::proofs::Written::calls_at, crate::proofs::Written::count_at))]
@@ -47,30 +39,32 @@ fn read_counts(journal: &[u8]) -> Counts
     requires { 24 ≤ length journal.now }
     ensures bytes { (result.calls ≡ le 2 journal.now 2) × (result.entries ≡ le 2 journal.now 4) }
     ensures contents { (result.calls ≡ (contents_of journal.now).calls) × (result.entries ≡ length (contents_of journal.now).entries) }
-    ensures small { (result.calls < 65536) × (result.entries < 65536) }
+    ensures small { result.entries < 65536 }
 {
     Counts {
-        calls: number_at(journal, 2),
-        entries: number_at(journal, 4),
+        calls: fields::get16(journal, 2),
+        entries: usize::from(fields::get16(journal, 4)),
     }
 }
 
 fn read_entry_head(entry: &[u8; 24]) -> EntryHead
-    ensures cell { (result.cell ≡ le 2 entry.now 0) × (result.cell < 65536) }
-    ensures call { (result.call ≡ le 2 entry.now 2) × (result.call < 65536) }
+    ensures cell { result.cell ≡ le 2 entry.now 0 }
+    ensures call { result.call ≡ le 2 entry.now 2 }
 {
     EntryHead {
-        cell: number_at(entry, 0),
-        call: number_at(entry, 2),
+        cell: fields::get16(entry, 0),
+        call: fields::get16(entry, 2),
     }
 }
 
+#[tactic(auto, unfolding(crate::specs::Journal::fits), using(crate::proofs::Written::known_tests))]
 fn good_length(len: usize) -> bool
     ensures { result ≡ fits len }
 {
     len % 24 == 0 && 48 <= len && len <= 48024
 }
 
+#[tactic(auto, unfolding(crate::specs::Scan::scan_head), using(crate::proofs::Written::known_tests, fields::specs::Zeros::zeros_part))]
 // Counts, the open byte and the unused bytes of the head.
 fn good_head(journal: &[u8]) -> bool
     requires { 24 ≤ length journal.now }
@@ -81,15 +75,17 @@ fn good_head(journal: &[u8]) -> bool
     let counted = counts.calls <= 1000 && 24 * (counts.entries + 1) <= journal.len();
     let filled = journal[0] <= 1 && journal[1] == 0 && fields::are_zero(&journal[6..24]);
     let closed = is_open || counts.calls == 0 && counts.entries == 0;
-    counted && filled && closed
+    counted & filled & closed
 }
 
+#[tactic(auto, unfolding(crate::specs::Scan::in_order_of), using(crate::proofs::Written::known_tests))]
 // Whether an entry may stand behind one of call `last` whose next cell would be `next`.
-fn in_order(entry: EntryHead, cells: usize, calls: usize, last: usize, next: usize) -> bool
+fn in_order(entry: EntryHead, cells: usize, calls: u16, last: u16, next: usize) -> bool
     ensures { result ≡ in_order_of cells calls last next entry.cell entry.call }
 {
-    let ascends = last < entry.call || next <= entry.cell;
-    1 <= entry.call && entry.call <= calls && last <= entry.call && entry.cell < cells && ascends
+    let cell = usize::from(entry.cell);
+    let ascends = last < entry.call || next <= cell;
+    1 <= entry.call && entry.call <= calls && last <= entry.call && cell < cells && ascends
 }
 
 // Whether so many entries in order, and then zeros, stand behind the head.
@@ -102,17 +98,20 @@ fn good_entries(journal: &[u8], cells: usize, counts: Counts) -> bool
     let mut next = 0;
     for entry in &places[1..counts.entries + 1] {
         let head = read_entry_head(entry);
-        let ordered = in_order(head, cells, counts.calls, last, next);
-        if !(ordered && fields::are_zero(&entry[4..8])) {
+        if !in_order(head, cells, counts.calls, last, next) {
+            return false;
+        }
+        if !fields::are_zero(&entry[4..8]) {
             return false;
         }
         last = head.call;
-        next = head.cell + 1;
+        next = usize::from(head.cell) + 1;
     }
     let end = 24 * (counts.entries + 1);
     fields::are_zero(&journal[end..])
 }
 
+#[tactic(auto, using(crate::proofs::Written::fits_long, crate::proofs::Scanned::head_room, crate::proofs::Scanned::bad_length, crate::proofs::Scanned::bad_head, crate::proofs::Scanned::entries_decide))]
 pub fn good_journal(journal: &[u8], cells: usize) -> bool
     ensures { result ≡ good_journal cells journal.now }
 {
@@ -128,29 +127,27 @@ pub fn is_open(journal: &[u8]) -> bool
     journal.first() == Some(&1)
 }
 
-#[tactic(auto, using(crate::proofs::Written::good_long))]
+#[tactic(auto, using(crate::proofs::Written::good_long, crate::proofs::States::begun_open, crate::proofs::Outcomes::begin_done, refusal::specs::Laws::some_number))]
 pub fn begin(journal: &mut [u8]) -> Result<(), Refusal>
     requires { GoodJournal journal.old }
     ensures { (x : List ℕ) → reply (code result) [] (vault x journal.new) ≡ begun (vault x journal.old) }
 {
-    if is_open(journal) {
-        return Err(Refusal::TransactionOpen);
-    }
+    refusal::refuse_if(is_open(journal), Refusal::TransactionOpen)?;
     journal[0] = 1;
     Ok(())
 }
 
+#[tactic(auto, using(crate::proofs::States::committed_open, crate::proofs::States::committed_closed, refusal::specs::Laws::some_number))]
 pub fn commit(journal: &mut [u8]) -> Result<(), Refusal>
     requires { GoodJournal journal.old }
     ensures { (x : List ℕ) → reply (code result) [] (vault x journal.new) ≡ committed (vault x journal.old) }
 {
-    if !is_open(journal) {
-        return Err(Refusal::NoTransaction);
-    }
+    refusal::refuse_if(!is_open(journal), Refusal::NoTransaction)?;
     journal.fill(0);
     Ok(())
 }
 
+#[tactic(auto, using(crate::proofs::Written::good_room, crate::proofs::Written::good_short))]
 // Puts the entries behind the first `from` back into the image, the last one first.
 fn put_back(image: &mut [u8], journal: &[u8], cells: usize, from: usize, count: usize)
     requires good_over { GoodOver cells image.old journal.now }
@@ -158,26 +155,24 @@ fn put_back(image: &mut [u8], journal: &[u8], cells: usize, from: usize, count: 
     ensures { image.new ≡ restore (drop from (contents_of journal.now).entries) image.old }
 {
     let (places, _) = journal.as_chunks::<24>();
-    for n in (from..count).rev() {
-        let entry = &places[n + 1];
-        let lo = 16 * read_entry_head(entry).cell;
+    for entry in places[from + 1..count + 1].iter().rev() {
+        let lo = 16 * usize::from(read_entry_head(entry).cell);
         image[lo..lo + 16].copy_from_slice(&entry[8..24]);
     }
 }
 
+#[tactic(auto, using(crate::proofs::Written::good_room, crate::proofs::Written::good_few))]
 // How many entries are of calls before the last.
 fn earlier_entries(journal: &[u8], counts: Counts) -> usize
     requires good_journal { GoodJournal journal.now }
-    requires calls_value { (counts.calls ≡ (contents_of journal.now).calls) × (counts.entries ≡ length (contents_of journal.now).entries) }
+    requires counts_of { (counts.calls ≡ (contents_of journal.now).calls) × (counts.entries ≡ length (contents_of journal.now).entries) }
     ensures { Earlier counts.calls (contents_of journal.now).entries result }
 {
     let (places, _) = journal.as_chunks::<24>();
-    for n in (0..counts.entries).rev() {
-        if read_entry_head(&places[n + 1]).call != counts.calls {
-            return n + 1;
-        }
-    }
-    0
+    places[1..counts.entries + 1]
+        .iter()
+        .rposition(|entry| read_entry_head(entry).call != counts.calls)
+        .map_or(0, |n| n + 1)
 }
 
 // Zeroes the entries behind the first `from`, up to the first `to`.
@@ -188,41 +183,35 @@ fn clear_entries(journal: &mut [u8], from: usize, to: usize)
     journal[24 * (from + 1)..24 * (to + 1)].fill(0);
 }
 
-// The casts, here and in `entry_bytes`, lose nothing below 65536; `try_from` would need an `unwrap` each.
+// The cast loses nothing below 65536; `try_from` would need an `unwrap`.
 fn write_counts(journal: &mut [u8], counts: Counts)
-    requires { (6 ≤ length journal.old) × (counts.calls < 65536) × (counts.entries < 65536) }
+    requires { (6 ≤ length journal.old) × (counts.entries < 65536) }
     ensures { journal.new ≡ put 2 (put 2 journal.old 2 counts.calls) 4 counts.entries }
 {
-    fields::put16(journal, 2, counts.calls as u16);
+    fields::put16(journal, 2, counts.calls);
     fields::put16(journal, 4, counts.entries as u16);
 }
 
-#[tactic(auto, using(crate::proofs::Written::good_long))]
+#[tactic(auto, using(crate::proofs::Written::good_long, crate::proofs::States::rolled_open, crate::proofs::States::rolled_closed, refusal::specs::Laws::some_number))]
 pub fn rollback(image: &mut [u8], journal: &mut [u8], cells: usize) -> Result<(), Refusal>
     requires { GoodOver cells image.old journal.old }
     ensures { reply (code result) [] (vault image.new journal.new) ≡ rolled_back (vault image.old journal.old) }
 {
-    if !is_open(journal) {
-        return Err(Refusal::NoTransaction);
-    }
+    refusal::refuse_if(!is_open(journal), Refusal::NoTransaction)?;
     let counts = read_counts(journal);
     put_back(image, journal, cells, 0, counts.entries);
     journal.fill(0);
     Ok(())
 }
 
-#[tactic(auto, using(crate::proofs::Written::good_long, crate::proofs::Written::good_room))]
+#[tactic(auto, using(crate::proofs::Written::good_long, crate::proofs::Written::good_room, crate::proofs::States::undone_closed, crate::proofs::Outcomes::undo_none, refusal::specs::Laws::some_number))]
 pub fn undo(image: &mut [u8], journal: &mut [u8], cells: usize) -> Result<(), Refusal>
     requires { GoodOver cells image.old journal.old }
     ensures { reply (code result) [] (vault image.new journal.new) ≡ undone (vault image.old journal.old) }
 {
-    if !is_open(journal) {
-        return Err(Refusal::NoTransaction);
-    }
+    refusal::refuse_if(!is_open(journal), Refusal::NoTransaction)?;
     let counts = read_counts(journal);
-    if counts.calls == 0 {
-        return Err(Refusal::NothingToUndo);
-    }
+    refusal::refuse_if(counts.calls == 0, Refusal::NothingToUndo)?;
     let left = earlier_entries(journal, counts);
     put_back(image, journal, cells, left, counts.entries);
     clear_entries(journal, left, counts.entries);
@@ -237,12 +226,11 @@ pub fn undo(image: &mut [u8], journal: &mut [u8], cells: usize) -> Result<(), Re
 }
 
 pub fn entry_bytes(head: EntryHead, old: &[u8; 16]) -> [u8; 24]
-    requires { (head.cell < 65536) × (head.call < 65536) }
     ensures { result ≡ entry_bytes (record { cell = head.cell; call = head.call; old = old.now }) }
 {
     let mut bytes = [0; 24];
-    bytes[0..2].copy_from_slice(&(head.cell as u16).to_le_bytes());
-    bytes[2..4].copy_from_slice(&(head.call as u16).to_le_bytes());
+    bytes[0..2].copy_from_slice(&head.cell.to_le_bytes());
+    bytes[2..4].copy_from_slice(&head.call.to_le_bytes());
     bytes[8..24].copy_from_slice(old);
     bytes
 }
@@ -256,13 +244,11 @@ fn place_at(n: usize, len: usize) -> usize
     len.min(24 * n)
 }
 
-// Whether two cells have the same two words.
+#[tactic(auto, using(crate::proofs::Stretches::pointwise_same))]
 fn same_cell(old: &[u8; 16], new: &[u8; 16]) -> bool
     ensures { result ≡ same_bytes_of old.now new.now }
 {
-    let low = fields::get64(old, 0) == fields::get64(new, 0);
-    let high = fields::get64(old, 8) == fields::get64(new, 8);
-    low & high
+    old == new
 }
 
 // Writes an entry for each cell that changed, as far as there are places, and counts them all. `same` tells whether two cells are the same.
@@ -287,7 +273,7 @@ pub fn enter_span<F: Fn(&[u8; 16], &[u8; 16]) -> bool>(
             n += 1;
             if end <= places.len() {
                 let head = EntryHead {
-                    cell: span.first + cell,
+                    cell: (span.first + cell) as u16,
                     call: span.call,
                 };
                 places[at..end].copy_from_slice(&entry_bytes(head, &before[cell]));
@@ -304,7 +290,7 @@ const STRETCH: usize = 16;
 const STRETCH_BYTES: usize = 256;
 
 // `enter_span` of a whole image, stretch by stretch; one that is the same in both images is passed over.
-pub fn enter_cells(old: &[u8], new: &[u8], places: &mut [u8], cells: usize, call: usize) -> usize
+pub fn enter_cells(old: &[u8], new: &[u8], places: &mut [u8], cells: usize, call: u16) -> usize
     requires { Cells cells 0 call old.now new.now }
     ensures { Finds cells call old.now new.now places.old result places.new }
 {
@@ -339,22 +325,15 @@ pub fn enter_cells(old: &[u8], new: &[u8], places: &mut [u8], cells: usize, call
 }
 
 // The changed cells behind the entries that are there: written as far as there are places, and all entries counted.
-#[tactic(auto, using(crate::proofs::Written::good_room, crate::proofs::Written::good_few))]
-fn enter_behind(
-    old: &[u8],
-    new: &[u8],
-    journal: &mut [u8],
-    cells: usize,
-    call: usize,
-    count: usize,
-) -> usize
+#[tactic(auto, using(crate::proofs::Written::good_room, crate::proofs::Written::good_few, crate::proofs::Written::good_calls))]
+fn enter_behind(old: &[u8], new: &[u8], journal: &mut [u8], cells: usize, counts: Counts) -> usize
     requires good_open { GoodOpen cells old.now new.now journal.old }
-    requires call_value { (call ≡ suc (contents_of journal.old).calls) × (count ≡ length (contents_of journal.old).entries) }
+    requires counts_of { (counts.calls ≡ (contents_of journal.old).calls) × (counts.entries ≡ length (contents_of journal.old).entries) }
     ensures { Counted cells old.now new.now journal.old result journal.new }
 {
-    let at = 24 * (count + 1);
-    let more = enter_cells(old, new, &mut journal[at..], cells, call);
-    count + more
+    let at = 24 * (counts.entries + 1);
+    let more = enter_cells(old, new, &mut journal[at..], cells, counts.calls + 1);
+    counts.entries + more
 }
 
 // Enters an operation that changed the image from `old` to `new`; where it is refused, the journal stays as it is.
@@ -364,16 +343,19 @@ pub fn enter(old: &[u8], new: &[u8], journal: &mut [u8], cells: usize) -> Result
     ensures { Enters cells old.now new.now journal.old (code result) journal.new }
 {
     let counts = read_counts(journal);
-    if counts.calls >= 1000 {
-        return Err(Refusal::JournalFull);
-    }
-    let calls = counts.calls + 1;
-    let entries = enter_behind(old, new, journal, cells, calls, counts.entries);
+    refusal::refuse_if(counts.calls >= 1000, Refusal::JournalFull)?;
+    let entries = enter_behind(old, new, journal, cells, counts);
     let len = journal.len();
     if 24 * (entries + 1) > len {
         clear_entries(journal, counts.entries, len / 24 - 1);
         return Err(Refusal::JournalFull);
     }
-    write_counts(journal, Counts { calls, entries });
+    write_counts(
+        journal,
+        Counts {
+            calls: counts.calls + 1,
+            entries,
+        },
+    );
     Ok(())
 }
