@@ -318,6 +318,7 @@ pub fn set_token_kind(img: &mut Image, token: Token, kind: Kind)
 }
 
 // Total: any slice.
+#[tactic(auto, unfolding(crate::specs::Good::good_image), using(std::proofs::Common::ne_eqb, fields::specs::Logic::false_and))]
 pub fn good_image(bytes: &[u8]) -> bool
     ensures { result ≡ good_image bytes.now }
 {
