@@ -223,7 +223,7 @@ fn gross_check(gross: Amount, fee: Amount) -> Result<(), Refusal>
     checks::max_deposit_check(gross)
 }
 
-#[tactic(auto, unfolding(fields::specs::Rules::chain, fields::specs::Rules::or_else, crate::specs::Deposit::deposit_with_fee_outcome), using(outcome::specs::Outcome::refused, crate::proofs::Laws::gross_free))]
+#[tactic(auto, unfolding(fields::specs::Rules::chain, fields::specs::Rules::or_else, crate::specs::Deposit::deposit_with_fee_outcome, crate::specs::Deposit::deposit_outcome), using(outcome::specs::Outcome::refused, outcome::specs::Outcome::accepted, crate::proofs::Laws::gross_free, crate::proofs::Whole::written_two))]
 pub fn deposit_with_fee(img: &mut Image, head: Head, events: &mut Buffer) -> Answer
     requires { Good img.old }
     ensures { Does (deposit_with_fee_outcome img.old head.caller.number head.signers head.sequence (biased head.amount) (biased head.fee)) result img.new events.new }
