@@ -125,7 +125,7 @@ impl Payment {
     }
 
     // A credit is added only if it fits.
-    #[tactic(auto, using(crate::proofs::Steps::credit_kept))]
+    #[tactic(auto, unfolding(crate::specs::Deposit::add_credit), using(crate::proofs::Steps::sum_fits, crate::proofs::Steps::sum_is, crate::proofs::Steps::sum_passes))]
     fn add_credit(self, img: &mut Image)
         requires { Keys img.old }
         ensures { img.new ≡ add_credit img.old self.token.address self.from.number (biased self.amount) }
