@@ -1,5 +1,5 @@
 -- The steps of a deposit, from what the functions called say.
-use Rattle.std.specs.Prelude.{List, [], ◌∷◌, Bool, true, false, not, ◌||◌, eqb, leb, FitsSigned, Option, Some, None, Result, IfOk}
+use Rattle.std.specs.Prelude.{[], ◌∷◌, Bool, true, false, not, ◌||◌, eqb, leb, ltb, FitsSigned, Option, Some, None, Result, IfOk}
 use Rattle.std.specs.Option.{ok_or}
 use Rattle.refusal.specs.Numbers.{code}
 use Rattle.refusal.specs.declared.Refusal.{Refusal}
@@ -12,14 +12,12 @@ use mathlib.Core.Path.{◌≡◌, refl, sym, ap, ◌∙◌}
 use Prim.Native.Nat.{ℕ, ◌+◌, ◌-◌, ◌≤◌}
 use native.Mathlib.Omega.{arith}
 use borrow.Author.Tests.{lt-ltb, le-ltb, eq-eqb, ne_eqb}
-use Rattle.storage.specs.Setters.{set_credit}
-use Rattle.image.specs.Layout.{slot, credit}
 use Rattle.amount.specs.declared.Amount.{Amount}
 use Rattle.amount.specs.Biased.{bias, biased, in_range}
 use Rattle.amount.specs.Order.{less_is, ne_true, ne_false}
 use Rattle.checks.specs.Passed.{not_above}
 use Rattle.fields.specs.Rules.{pick, Guard, test, when, verdict, stop_at}
-use Rattle.deposits.specs.Deposit.{overflow_rules, overflow_number, add_credit}
+use Rattle.deposits.specs.Deposit.{overflow_rules, overflow_number}
 
 not_less : (o : Ordering) → is_ge o ≡ not (is_lt o)
 not_less Less = refl
@@ -63,14 +61,13 @@ summed_number a n e h q = rw q (summed a n e h).0
 pub summed_value : {s : Option Amount} {r : Result Amount Refusal} (a n : ℕ) → s ≡ in_range (a + n) → bias ≤ n → r ≡ ok_or s ArithmeticOverflow → IfOk r (λ t. biased t ≡ a + n - bias)
 summed_value a n e h q = rw q (summed a n e h).1
 
--- a credit is set to a sum that fits, and is left where there is none
-module _ (l : List ℕ) (t a n : ℕ) where
-  pub credit_fits : {o : ℕ} {v : Amount} {m : List ℕ} → m ≡ set_credit l t a (biased v) → o ≡ credit l (slot t) a → Some v ≡ in_range (o + n) → m ≡ add_credit l t a n
-  unfolding add_credit
-  credit_fits {o} p c e =
-      let (_, h) = (valued (o + n) e refl).0 in
-      rw (lt-ltb (credit l (slot t) a + n) (bias + bias + bias) (omega arith)) (p ∙ ap (set_credit l t a) (sum-biased (o + n) e refl ∙ ap (λ (k : ℕ). k + n - bias) c))
+-- s is a checked sum: it fits and is v, or passes
+module _ (a n : ℕ) {s : Option Amount} (e : s ≡ in_range (a + n)) where
+  pub sum_fits : {v : Amount} → s ≡ Some v → ltb (a + n) (bias + bias + bias) ≡ true
+  sum_fits f = let (_, h) = (valued (a + n) e f).0 in lt-ltb (a + n) (bias + bias + bias) (omega arith)
 
-  pub credit_kept : {o : ℕ} {s : Option Amount} → o ≡ credit l (slot t) a → s ≡ in_range (o + n) → s ≡ None → bias ≤ n → l ≡ add_credit l t a n
-  unfolding add_credit
-  credit_kept {o} c e f h = let g = over_high (o + n) e f (omega arith) in rw (le-ltb (credit l (slot t) a + n) (bias + bias + bias) (omega arith)) refl
+  pub sum_is : {v : Amount} → s ≡ Some v → biased v ≡ a + n - bias
+  sum_is f = sum-biased (a + n) e f
+
+  pub sum_passes : s ≡ None → bias ≤ n → ltb (a + n) (bias + bias + bias) ≡ false
+  sum_passes f h = let g = over_high (a + n) e f (omega arith) in le-ltb (a + n) (bias + bias + bias) (omega arith)

@@ -125,7 +125,7 @@ impl Payment {
     }
 
     // A credit is added only if it fits.
-    #[tactic(auto, using(crate::proofs::Steps::credit_kept))]
+    #[tactic(auto, unfolding(crate::specs::Deposit::add_credit), using(crate::proofs::Steps::sum_fits, crate::proofs::Steps::sum_is, crate::proofs::Steps::sum_passes))]
     fn add_credit(self, img: &mut Image)
         requires { Keys img.old }
         ensures { img.new ≡ add_credit img.old self.token.address self.from.number (biased self.amount) }
@@ -223,7 +223,7 @@ fn gross_check(gross: Amount, fee: Amount) -> Result<(), Refusal>
     checks::max_deposit_check(gross)
 }
 
-#[tactic(auto, unfolding(fields::specs::Rules::chain, fields::specs::Rules::or_else, crate::specs::Deposit::deposit_with_fee_outcome), using(outcome::specs::Outcome::refused, crate::proofs::Laws::gross_free))]
+#[tactic(auto, unfolding(fields::specs::Rules::chain, fields::specs::Rules::or_else, crate::specs::Deposit::deposit_with_fee_outcome, crate::specs::Deposit::deposit_outcome), using(outcome::specs::Outcome::refused, outcome::specs::Outcome::accepted, crate::proofs::Laws::gross_free, crate::proofs::Whole::written_two))]
 pub fn deposit_with_fee(img: &mut Image, head: Head, events: &mut Buffer) -> Answer
     requires { Good img.old }
     ensures { Does (deposit_with_fee_outcome img.old head.caller.number head.signers head.sequence (biased head.amount) (biased head.fee)) result img.new events.new }
