@@ -8,13 +8,11 @@ use native.Mathlib.Nat.{sub-zero}
 use Rattle.events.specs.Event.{EventFields, put_event, event_buffer}
 use Rattle.events.specs.Buffer.{appended}
 use Rattle.record.specs.Record.{item_address, item_amount}
-use Rattle.token.specs.Token.{transfer_number, transfer_of}
+use Rattle.token.specs.Token.{transfer_number}
 use Rattle.token.specs.Laws.{transfer_free, good_transfer}
 use Rattle.storage.specs.Facts.{Good}
 use Rattle.amount.specs.Biased.{bias}
 use Rattle.fields.specs.Rules.{chain}
-use Rattle.image.specs.Layout.{slot, holding}
-use Rattle.events.specs.Kinds.{deposited_event}
 use Rattle.checks.specs.Checks.{max_vault_deposit, deposit_amount_number, signed_number}
 use Rattle.batch_deposits.specs.Batch.{item_number, items_number, items_sum, item_transfer, transfers_number, transfers_image, item_event, transfers_events}
 use Rattle.batch_deposits.specs.Laws.{item_free, one_more_fits, items_end, items_stop, items-step, transfers_end, transfers_stop, transfers_step}
@@ -90,26 +88,21 @@ pub record Underway (r : List ℕ) (t count : ℕ) (l₀ : List ℕ) (i : ℕ) (
   pub written : Written i e (transfers_events count r t 0 l₀) (transfers_events (count - i) r t i l)
 
 module _ (r : List ℕ) (t count : ℕ) (l₀ : List ℕ) (i : ℕ) (l e : List ℕ) (w : Underway r t count l₀ i l e) where
-  -- a turn: a and n are the item, k is the number of its transfer, y and v image and events after it
-  module _ {a n k : ℕ} (h : i < count) (p : (a ≡ item_address r i) × (n ≡ item_amount r i)) (q : k ≡ transfer_number l t a 1 n) where
-    transfer_made : k ≡ transfer_number l t (item_address r i) 1 (item_amount r i)
-    transfer_made = rw (p.0, p.1) at q
-
+  -- a turn: k is the number of the item's transfer, y and v image and events after it
+  module _ {k : ℕ} (h : i < count) (q : k ≡ transfer_number l t (item_address r i) 1 (item_amount r i)) where
     pub stops : (k ≡ 0 → ⊥) → k ≡ transfers_number count r t 0 l₀
-    stops z = transfers_stop (count - i) r t i l transfer_made (omega arith) z ∙ sym w.number
+    stops z = transfers_stop (count - i) r t i l q (omega arith) z ∙ sym w.number
 
-    pub goes_on : {y v : List ℕ} → count ≤ 16 → (item_address r i < 64) × (bias < item_amount r i) → k ≡ 0 → y ≡ transfer_of l t a 1 n → v ≡ put_event e i (deposited_event a n (holding y (slot t) 1)) → Underway r t count l₀ (i + 1) y v
-    goes_on {y} {v} m b z c x =
-        let f = transfer_free l t (item_address r i) 1 (item_amount r i) transfer_made z in
-        let (sn, si, se) = transfers_step (count - i) r t i l transfer_made (count - (i + 1)) (i + 1) (omega arith) (omega arith) z in
-        let y_is : y ≡ item_transfer l r t i = rw (p.0, p.1) at c in
-        let v_is : v ≡ put_event e i (item_event l r t i) = rw (y_is, p.0, p.1) at x in
-        rw y_is
+    pub goes_on : {y v : List ℕ} → count ≤ 16 → item_address r i < 64 → bias < item_amount r i → k ≡ 0 → y ≡ item_transfer l r t i → v ≡ put_event e i (item_event l r t i) → Underway r t count l₀ (i + 1) y v
+    goes_on {y} {v} m b d z c x =
+        let f = transfer_free l t (item_address r i) 1 (item_amount r i) q z in
+        let (sn, si, se) = transfers_step (count - i) r t i l q (count - (i + 1)) (i + 1) (omega arith) (omega arith) z in
+        rw c
         (record {
-          good = good_transfer l t (item_address r i) 1 (item_amount r i) w.good b.0 (omega arith) (omega arith) f;
+          good = good_transfer l t (item_address r i) 1 (item_amount r i) w.good b (omega arith) (omega arith) f;
           number = w.number ∙ sn;
           image = w.image ∙ si;
-          written = written_next (rw se at w.written) (omega arith) v_is;
+          written = written_next (rw se at w.written) (omega arith) x;
         })
 
   pub ends : count - i ≡ 0 → (0 ≡ transfers_number count r t 0 l₀) × (l ≡ transfers_image count r t 0 l₀) × (e ≡ event_buffer (transfers_events count r t 0 l₀))

@@ -7,17 +7,16 @@ ghost use Rattle.refusal.specs.Numbers.{code};
 ghost use Rattle.amount.specs.Biased.{bias, biased};
 ghost use Rattle.image.specs.Layout.{slot, holding};
 ghost use Rattle.storage.specs.Facts.{Good};
-ghost use Rattle.token.specs.Token.{transfer_number, transfer_of};
+ghost use Rattle.token.specs.Token.{transfer_number};
 ghost use Rattle.record.specs.Record.{item_address, item_amount};
 ghost use Rattle.events.specs.Event.{event_buffer, put_event};
-ghost use Rattle.events.specs.Kinds.{deposited_event};
 ghost use Rattle.checks.specs.Checks.{deposit_amount_number, signed_number};
 ghost use Rattle.outcome.specs.Outcome.{Does};
-ghost use Rattle.batch_deposits.specs.Batch.{count_number, open_number, items_number, items_sum, transfers_number, transfers_image, transfers_events, collect_outcome, batch_outcome};
+ghost use Rattle.batch_deposits.specs.Batch.{count_number, open_number, items_number, items_sum, item_transfer, item_event, transfers_number, transfers_image, transfers_events, collect_outcome, batch_outcome};
 
 use amount::Amount;
-use events::Buffer;
-use image::{Address, Image, Token};
+use events::{Buffer, Event};
+use image::{Image, Token};
 use outcome::{Answer, Done};
 use record::{Head, Item, Items};
 use refusal::Refusal;
@@ -41,13 +40,13 @@ fn open_check(img: &Image, count: u8) -> Result<(), Refusal>
 
 // 4, 5; 22.
 fn item_check(item: Item, signers: u64) -> Result<(), Refusal>
-    ensures { code result ≡ chain (deposit_amount_number (biased item.amount) ∷ signed_number signers item.address ∷ []) }
+    ensures { code result ≡ chain (deposit_amount_number (biased item.amount) ∷ signed_number signers item.address.number ∷ []) }
 {
     checks::deposit_amount_check(item.amount)?;
-    checks::signed_check(signers, item.address)
+    checks::signed_check(signers, item.address.number)
 }
 
-// Item by item 4, 5; 22. Sixteen amounts of at most 10 ^ 30 stay far below 2 ^ 127.
+// Item by item 4, 5; 22. Sixteen amounts of at most 10 ^ 30 stay far below 2 ^ 127. The one of `payouts` tests an item and each sum by other rules.
 fn add_items(items: Items<'_>, signers: u64) -> Result<Amount, Refusal>
     ensures number { code result ≡ items_number items.entry.count items.entry.rec.now signers 0 }
     ensures total { IfOk result (λ t. biased t ≡ bias + items_sum items.entry.count items.entry.rec.now 0) }
@@ -61,78 +60,88 @@ fn add_items(items: Items<'_>, signers: u64) -> Result<Amount, Refusal>
     Ok(sum)
 }
 
-// One item: its transfer (23), then its event.
-#[tactic(auto, unfolding(fields::specs::Rules::chain, fields::specs::Rules::or_else), using(token::specs::Laws::transfer_done))]
-fn transfer_item(
-    img: &mut Image,
-    item: Item,
-    token: Token,
-    i: usize,
-    events: &mut Buffer,
-) -> Result<(), Refusal>
-    requires { Good img.old × (i < 16) × (item.address < 64) × (bias ≤ biased item.amount) }
-    ensures value { code result ≡ transfer_number img.old token.address item.address 1 (biased item.amount) }
-    ensures img_after { OnOk result (img.new ≡ transfer_of img.old token.address item.address 1 (biased item.amount)) }
-    ensures events_after { OnOk result (events.new ≡ put_event events.old i (deposited_event item.address (biased item.amount) (holding img.new (slot token.address) 1))) }
-{
-    let from = Address {
-        number: item.address,
-    };
-    token::transfer(img, token.address, from, token::VAULT, item.amount)?;
-    let held = token::balance(img, token, token::VAULT);
-    deposits::put_deposited(events, i, from.number, item.amount, held);
-    Ok(())
-}
-
-// All transfers, item by item.
-fn transfer_items(
-    img: &mut Image,
-    items: Items<'_>,
-    token: Token,
-    events: &mut Buffer,
-) -> Result<(), Refusal>
-    requires good { Good img.old × (events.old ≡ event_buffer []) }
-    requires by_index { (j : ℕ) → j < items.count → (item_address items.rec.now j < 64) × (bias < item_amount items.rec.now j) }
-    ensures value { code result ≡ transfers_number items.entry.count items.entry.rec.now token.address 0 img.old }
-    ensures img_after { OnOk result ((img.new ≡ transfers_image items.entry.count items.entry.rec.now token.address 0 img.old) × (events.new ≡ event_buffer (transfers_events items.entry.count items.entry.rec.now token.address 0 img.old))) }
-{
-    for i in 0..usize::from(items.count) {
-        transfer_item(img, items.get(i), token, i, events)?;
-    }
-    Ok(())
-}
-
-// 23 item by item; 12 of the sum; then the snapshot.
-#[tactic(auto, unfolding(fields::specs::Rules::chain, fields::specs::Rules::or_else, crate::specs::Batch::collect_outcome), using(outcome::specs::Outcome::refused, outcome::specs::Outcome::accepted, crate::specs::Laws::events_long))]
-fn collect(
-    img: &mut Image,
-    items: Items<'_>,
+// The items of a batch, and what its checks have found.
+#[derive(Clone, Copy)]
+struct Batch<'a> {
+    items: Items<'a>,
     token: Token,
     sequence: u32,
     sum: Amount,
-    events: &mut Buffer,
-) -> Answer
-    requires good { Good img.old × (events.old ≡ event_buffer []) × (bias ≤ biased sum) × (holding img.old (slot token.address) 1 + biased sum < bias + bias + bias) }
-    requires by_index { (j : ℕ) → j < items.count → (item_address items.rec.now j < 64) × (bias < item_amount items.rec.now j) }
-    ensures { Does (collect_outcome img.old items.entry.rec.now token.address sequence items.entry.count (biased sum)) result img.new events.new }
-{
-    let expected = token::balance(img, token, token::VAULT) + sum;
-    transfer_items(img, items, token, events)?;
-    let held = token::balance(img, token, token::VAULT);
-    deposits::expected_check(held, expected)?;
-    storage::record_vault_balance(img, token, sequence, held);
-    Ok(Done::new(items.count))
+    ghost above: { (j : ℕ) → j < items.count → bias < item_amount items.rec.now j },
+    ghost not_negative: { bias ≤ biased sum },
+}
+
+impl Batch<'_> {
+    // One item: its transfer (23), then its event.
+    #[tactic(auto, unfolding(fields::specs::Rules::chain, fields::specs::Rules::or_else), using(token::specs::Laws::transfer_done))]
+    fn transfer_item(self, img: &mut Image, i: usize, events: &mut Buffer) -> Result<(), Refusal>
+        requires { Good img.old × (i < self.items.count) }
+        ensures value { code result ≡ transfer_number img.old self.entry.token.address (item_address self.entry.items.rec.now i) 1 (item_amount self.entry.items.rec.now i) }
+        ensures img_after { OnOk result (img.new ≡ item_transfer img.old self.entry.items.rec.now self.entry.token.address i) }
+        ensures events_after { OnOk result (events.new ≡ put_event events.old i (item_event img.old self.entry.items.rec.now self.entry.token.address i)) }
+    {
+        let item = self.items.get(i);
+        token::transfer(
+            img,
+            usize::from(self.token.address),
+            item.address,
+            token::VAULT,
+            item.amount,
+        )?;
+        events::put_event(
+            events,
+            i,
+            Event::Deposited {
+                from: item.address.number,
+                amount: item.amount,
+                new_balance: token::balance(img, self.token, token::VAULT),
+            },
+        );
+        Ok(())
+    }
+
+    // All transfers, item by item.
+    fn transfer_items(self, img: &mut Image, events: &mut Buffer) -> Result<(), Refusal>
+        requires { Good img.old }
+        ensures value { code result ≡ transfers_number self.entry.items.count self.entry.items.rec.now self.entry.token.address 0 img.old }
+        ensures img_after { OnOk result ((img.new ≡ transfers_image self.entry.items.count self.entry.items.rec.now self.entry.token.address 0 img.old) × (events.new ≡ event_buffer (transfers_events self.entry.items.count self.entry.items.rec.now self.entry.token.address 0 img.old))) }
+    {
+        events::clear_events(events);
+        for i in 0..usize::from(self.items.count) {
+            self.transfer_item(img, i, events)?;
+        }
+        Ok(())
+    }
+
+    // 23 item by item; 12 of the sum; then the snapshot.
+    #[tactic(auto, unfolding(fields::specs::Rules::chain, fields::specs::Rules::or_else, crate::specs::Batch::collect_outcome), using(outcome::specs::Outcome::refused, outcome::specs::Outcome::accepted, crate::specs::Laws::events_long))]
+    fn collect(self, img: &mut Image, events: &mut Buffer) -> Answer
+        requires { Good img.old × (holding img.old (slot self.token.address) 1 + biased self.sum < bias + bias + bias) }
+        ensures { Does (collect_outcome img.old self.entry.items.rec.now self.entry.token.address self.entry.sequence self.entry.items.count (biased self.entry.sum)) result img.new events.new }
+    {
+        let expected = token::balance(img, self.token, token::VAULT) + self.sum;
+        self.transfer_items(img, events)?;
+        let held = token::balance(img, self.token, token::VAULT);
+        deposits::expected_check(held, expected)?;
+        storage::record_vault_balance(img, self.token, self.sequence, held);
+        Ok(Done::new(self.items.count))
+    }
 }
 
 #[tactic(auto, unfolding(fields::specs::Rules::chain, fields::specs::Rules::or_else, crate::specs::Batch::batch_outcome, crate::specs::Batch::batch_checks), using(outcome::specs::Outcome::refused, crate::specs::Laws::open_free, crate::specs::Laws::items_free, deposits::proofs::Laws::funding_free))]
 pub fn batch_deposit(img: &mut Image, items: Items<'_>, head: Head, events: &mut Buffer) -> Answer
-    requires good { Good img.old × (events.old ≡ event_buffer []) }
-    requires by_index { (j : ℕ) → j < items.count → item_address items.rec.now j < 64 }
+    requires { Good img.old }
     ensures { Does (batch_outcome img.old items.entry.rec.now head.signers head.sequence items.entry.count) result img.new events.new }
 {
     open_check(img, items.count)?;
     let sum = add_items(items, head.signers)?;
     let token = token::default_token(img);
     deposits::funding_check(img, token, head.sequence, sum)?;
-    collect(img, items, token, head.sequence, sum, events)
+    let batch = Batch {
+        items,
+        token,
+        sequence: head.sequence,
+        sum,
+    };
+    batch.collect(img, events)
 }

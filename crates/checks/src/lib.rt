@@ -43,7 +43,8 @@ pub fn owner_role_check(img: &Image, caller: u8) -> Result<(), Refusal>
     )
 }
 
-// 1, 3, 22.
+// 1, 3, 22. `shared_gate` differs in one check, which a parameter would name as well.
+// Callers hold `caller` and `signers` as two fields: a struct of the two would be made at each call.
 pub fn owner_gate(img: &Image, caller: u8, signers: u64) -> Result<(), Refusal>
     ensures { code result ≡ owner_number img.now caller signers }
 {
@@ -56,8 +57,7 @@ pub fn owner_gate(img: &Image, caller: u8, signers: u64) -> Result<(), Refusal>
 pub fn is_insider(img: &Image, a: u8) -> bool
     ensures { num result ≡ insider img.now a }
 {
-    fields::get8(img, image::OWNER) == a
-        || has_flag(img, Flag::Operator) && fields::get8(img, image::OPERATOR) == a
+    fields::get8(img, image::OWNER) == a || image::operator(img) == Some(a)
 }
 
 // 3, the operator let in too.
@@ -135,11 +135,8 @@ pub fn cap_check(img: &Image, caller: u8, sum: Amount) -> Result<(), Refusal>
     if fields::get8(img, image::OWNER) == caller {
         return Ok(());
     }
-    refusal::refuse_if(!has_flag(img, Flag::OperatorLimit), Refusal::LimitExceeded)?;
-    refusal::refuse_if(
-        sum > amount::read_amount(img, image::OPERATOR_LIMIT),
-        Refusal::LimitExceeded,
-    )
+    let limit = image::operator_limit(img).ok_or(Refusal::LimitExceeded)?;
+    refusal::refuse_if(sum > limit, Refusal::LimitExceeded)
 }
 
 // 6: above a holding.

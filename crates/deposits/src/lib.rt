@@ -7,7 +7,7 @@ ghost use Rattle.amount.specs.Biased.{bias, biased};
 ghost use Rattle.image.specs.Layout.{slot, holding};
 ghost use Rattle.storage.specs.Facts.{Good, Keys};
 ghost use Rattle.token.specs.Token.{transfer_number, transferred, transfer_of};
-ghost use Rattle.events.specs.Event.{event_buffer, put_event};
+ghost use Rattle.events.specs.Event.{event_buffer};
 ghost use Rattle.events.specs.Kinds.{deposited_event};
 ghost use Rattle.storage.specs.Setters.{record_balance};
 ghost use Rattle.outcome.specs.Outcome.{Does};
@@ -44,26 +44,11 @@ fn checked_sum(a: Amount, n: Amount) -> Result<Amount, Refusal>
 }
 
 // 12: the vault's holding is not the one expected.
+#[tactic(auto, unfolding(fields::specs::Rules::verdict, crate::specs::Deposit::expected_number), using(amount::specs::Order::ne_true, amount::specs::Order::ne_false))]
 pub fn expected_check(held: Amount, expected: Amount) -> Result<(), Refusal>
     ensures { code result ≡ expected_number (biased held) (biased expected) }
 {
     refusal::refuse_if(held != expected, Refusal::DepositTransferFailed)
-}
-
-// The event of a deposit, at place i of the buffer.
-pub fn put_deposited(events: &mut Buffer, i: usize, from: u8, amount: Amount, new_balance: Amount)
-    requires { i < 16 }
-    ensures { events.new ≡ put_event events.old i (deposited_event from (biased amount) (biased new_balance)) }
-{
-    events::put_event(
-        events,
-        i,
-        Event::Deposited {
-            from,
-            amount,
-            new_balance,
-        },
-    );
 }
 
 // What a deposit brings, once its amount is found above 0.
@@ -78,14 +63,12 @@ struct Payment {
 
 impl Payment {
     fn new(head: Head, token: Token) -> Payment
-        requires { (head.caller < 64) × (bias ≤ biased head.amount) }
-        ensures { (result.token ≡ token) × (result.from.number ≡ head.caller) × (result.sequence ≡ head.sequence) × (result.amount ≡ head.amount) }
+        requires { bias ≤ biased head.amount }
+        ensures { (result.token ≡ token) × (result.from ≡ head.caller) × (result.sequence ≡ head.sequence) × (result.amount ≡ head.amount) }
     {
         Payment {
             token,
-            from: Address {
-                number: head.caller,
-            },
+            from: head.caller,
             sequence: head.sequence,
             amount: head.amount,
         }
@@ -99,7 +82,7 @@ impl Payment {
     {
         token::transfer(
             img,
-            self.token.address,
+            usize::from(self.token.address),
             self.from,
             token::VAULT,
             self.amount,
@@ -154,22 +137,28 @@ impl Payment {
     }
 
     // What follows the transfer: credit, snapshot and event.
-    #[tactic(auto, using(events::specs::Buffer::written_one))]
     fn settle(self, img: &mut Image, events: &mut Buffer)
-        requires { Keys img.old × (events.old ≡ event_buffer []) }
+        requires { Keys img.old }
         ensures img_after { img.new ≡ record_balance (add_credit img.old self.token.address self.from.number (biased self.amount)) self.token.address self.sequence (holding img.old (slot self.token.address) 1) }
         ensures events_after { events.new ≡ event_buffer (deposited_event self.from.number (biased self.amount) (holding img.old (slot self.token.address) 1) ∷ []) }
     {
         let held = token::balance(img, self.token, token::VAULT);
         self.add_credit(img);
         storage::record_vault_balance(img, self.token, self.sequence, held);
-        put_deposited(events, 0, self.from.number, self.amount, held);
+        events::write_one(
+            events,
+            Event::Deposited {
+                from: self.from.number,
+                amount: self.amount,
+                new_balance: held,
+            },
+        );
     }
 
     // A failed transfer is done with value 0; else 12; 7.
     #[tactic(auto, using(crate::proofs::Whole::transfer_keys, refusal::specs::Laws::code_is_ok))]
     fn report(self, img: &mut Image, events: &mut Buffer) -> Answer
-        requires { Good img.old × (holding img.old (slot self.token.address) 1 + biased self.amount < bias + bias + bias) × (events.old ≡ event_buffer []) }
+        requires { Good img.old × (holding img.old (slot self.token.address) 1 + biased self.amount < bias + bias + bias) }
         ensures { Does (report_outcome img.old self.token.address self.from.number self.sequence (biased self.amount)) result img.new events.new }
     {
         let expected = token::balance(img, self.token, token::VAULT) + self.amount;
@@ -196,17 +185,17 @@ impl Payment {
 #[tactic(auto, unfolding(fields::specs::Rules::chain, fields::specs::Rules::or_else, crate::specs::Deposit::deposit_checks), using(checks::specs::Passed::gate_refused, checks::specs::Passed::gate_passed, checks::specs::Passed::gate_free, checks::specs::Passed::deposit_amount_free))]
 fn deposit_checks(img: &Image, head: Head) -> Result<(), Refusal>
     requires { Good img.now }
-    ensures { code result ≡ deposit_checks img.now head.caller head.signers head.sequence (biased head.amount) }
+    ensures { code result ≡ deposit_checks img.now head.caller.number head.signers head.sequence (biased head.amount) }
 {
-    checks::open_gate(img, head.caller, head.signers)?;
+    checks::open_gate(img, head.caller.number, head.signers)?;
     checks::deposit_amount_check(head.amount)?;
     funding_check(img, token::default_token(img), head.sequence, head.amount)
 }
 
 #[tactic(auto, unfolding(fields::specs::Rules::chain, fields::specs::Rules::or_else, crate::specs::Deposit::deposit_outcome, crate::specs::Deposit::deposit_image), using(outcome::specs::Outcome::refused, outcome::specs::Outcome::accepted, crate::proofs::Laws::checks_passed, crate::proofs::Whole::received_keys))]
 pub fn deposit(img: &mut Image, head: Head, events: &mut Buffer) -> Answer
-    requires { Good img.old × (head.caller < 64) × (events.old ≡ event_buffer []) }
-    ensures { Does (deposit_outcome img.old head.caller head.signers head.sequence (biased head.amount)) result img.new events.new }
+    requires { Good img.old }
+    ensures { Does (deposit_outcome img.old head.caller.number head.signers head.sequence (biased head.amount)) result img.new events.new }
 {
     deposit_checks(img, head)?;
     let payment = Payment::new(head, token::default_token(img));
@@ -236,8 +225,8 @@ fn gross_check(gross: Amount, fee: Amount) -> Result<(), Refusal>
 
 #[tactic(auto, unfolding(fields::specs::Rules::chain, fields::specs::Rules::or_else, crate::specs::Deposit::deposit_with_fee_outcome), using(outcome::specs::Outcome::refused, crate::proofs::Laws::gross_free))]
 pub fn deposit_with_fee(img: &mut Image, head: Head, events: &mut Buffer) -> Answer
-    requires { Good img.old × (head.caller < 64) × (events.old ≡ event_buffer []) }
-    ensures { Does (deposit_with_fee_outcome img.old head.caller head.signers head.sequence (biased head.amount) (biased head.fee)) result img.new events.new }
+    requires { Good img.old }
+    ensures { Does (deposit_with_fee_outcome img.old head.caller.number head.signers head.sequence (biased head.amount) (biased head.fee)) result img.new events.new }
 {
     gross_check(head.amount, head.fee)?;
     let net = head.amount - head.fee;
@@ -253,7 +242,7 @@ pub fn deposit_with_fee(img: &mut Image, head: Head, events: &mut Buffer) -> Ans
         events,
         1,
         Event::TokenDeposited {
-            from: head.caller,
+            from: head.caller.number,
             gross_amount: head.amount,
             fee_amount: head.fee,
             net_amount: net,
@@ -264,8 +253,8 @@ pub fn deposit_with_fee(img: &mut Image, head: Head, events: &mut Buffer) -> Ans
 
 #[tactic(auto, unfolding(fields::specs::Rules::chain, fields::specs::Rules::or_else, crate::specs::Report::failure_report_outcome), using(outcome::specs::Outcome::refused, crate::proofs::Laws::checks_passed))]
 pub fn deposit_with_failure_report(img: &mut Image, head: Head, events: &mut Buffer) -> Answer
-    requires { Good img.old × (head.caller < 64) × (events.old ≡ event_buffer []) }
-    ensures { Does (failure_report_outcome img.old head.caller head.signers head.sequence (biased head.amount)) result img.new events.new }
+    requires { Good img.old }
+    ensures { Does (failure_report_outcome img.old head.caller.number head.signers head.sequence (biased head.amount)) result img.new events.new }
 {
     deposit_checks(img, head)?;
     let payment = Payment::new(head, token::default_token(img));
@@ -277,23 +266,23 @@ fn token_cap_check(img: &Image, token: Token, held: Amount, n: Amount) -> Result
     requires { bias ≤ biased n }
     ensures { code result ≡ token_cap_number img.now token.address (biased held) (biased n) }
 {
-    if !checks::contains(fields::get64(img, image::CAPPED_SET), token.address) {
-        return Ok(());
-    }
     let address = Address {
         number: token.address,
     };
-    checks::limit_check(held, n, amount::read_amount(img, image::cap_at(address)))
+    match image::cap(img, address) {
+        Some(cap) => checks::limit_check(held, n, cap),
+        None => Ok(()),
+    }
 }
 
 // 10; 23; 11; with a cap 7, 6.
 fn token_funding_check(img: &Image, head: Head) -> Result<Token, Refusal>
     requires { bias ≤ biased head.amount }
-    ensures number { code result ≡ token_funding_number img.now head.token head.sequence (biased head.amount) }
-    ensures token { IfOk result (λ token. token.address ≡ head.token) }
+    ensures number { code result ≡ token_funding_number img.now head.token.number head.sequence (biased head.amount) }
+    ensures token { IfOk result (λ token. token.address ≡ head.token.number) }
 {
-    checks::approved_check(img, head.token)?;
-    let token = token::presence_check(img, head.token)?;
+    checks::approved_check(img, head.token.number)?;
+    let token = token::presence_check(img, usize::from(head.token.number))?;
     let held = token::balance(img, token, token::VAULT);
     storage::check_vault_balance(img, token, head.sequence, held)?;
     token_cap_check(img, token, held, head.amount)?;
@@ -303,18 +292,18 @@ fn token_funding_check(img: &Image, head: Head) -> Result<Token, Refusal>
 // 8; 1, 3, 22; 4, 5; 10; 23; 11; 7, 6.
 #[tactic(auto, unfolding(fields::specs::Rules::chain, fields::specs::Rules::or_else, crate::specs::TokenDeposit::token_checks), using(checks::specs::Passed::gate_refused, checks::specs::Passed::gate_passed, checks::specs::Passed::deposit_amount_free))]
 fn token_checks(img: &Image, head: Head) -> Result<Token, Refusal>
-    ensures number { code result ≡ token_checks img.now head.caller head.signers head.sequence head.token (biased head.amount) }
-    ensures token { IfOk result (λ token. token.address ≡ head.token) }
+    ensures number { code result ≡ token_checks img.now head.caller.number head.signers head.sequence head.token.number (biased head.amount) }
+    ensures token { IfOk result (λ token. token.address ≡ head.token.number) }
 {
-    checks::open_gate(img, head.caller, head.signers)?;
+    checks::open_gate(img, head.caller.number, head.signers)?;
     checks::deposit_amount_check(head.amount)?;
     token_funding_check(img, head)
 }
 
 #[tactic(auto, unfolding(fields::specs::Rules::chain, fields::specs::Rules::or_else, crate::specs::TokenDeposit::deposit_token_outcome), using(outcome::specs::Outcome::refused, outcome::specs::Outcome::accepted, crate::proofs::Laws::token_passed, crate::proofs::Whole::token_keys, crate::proofs::Swap::token_image))]
 pub fn deposit_token(img: &mut Image, head: Head, events: &mut Buffer) -> Answer
-    requires { Good img.old × (head.caller < 64) × (events.old ≡ event_buffer []) }
-    ensures { Does (deposit_token_outcome img.old head.caller head.signers head.sequence head.token (biased head.amount)) result img.new events.new }
+    requires { Good img.old }
+    ensures { Does (deposit_token_outcome img.old head.caller.number head.signers head.sequence head.token.number (biased head.amount)) result img.new events.new }
 {
     let payment = Payment::new(head, token_checks(img, head)?);
     payment.receive_and_credit_check(img)?;

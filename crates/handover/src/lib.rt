@@ -1,10 +1,9 @@
 // Operations 15 to 17: the owner is proposed and accepted, and how long a proposal lives (lib.rs).
 #![tactic(auto, unfolding(fields::specs::Rules::chain, fields::specs::Rules::or_else, fields::specs::Rules::verdict, crate::specs::Handover::propose_outcome, crate::specs::Handover::propose_number, crate::specs::Handover::new_owner_number, crate::specs::Handover::pending_number, crate::specs::Handover::expired_number, crate::specs::Handover::accept_number, crate::specs::Handover::clear_pending, crate::specs::Handover::accept_outcome, crate::specs::Handover::proposal_ttl_outcome, crate::specs::Handover::proposal_ttl_number, crate::specs::Handover::ttl_number), using(outcome::specs::Outcome::refused, outcome::specs::Outcome::announced))]
 
-ghost use Rattle.std.specs.Prelude.{◌≡◌, []};
+ghost use Rattle.std.specs.Prelude.{◌≡◌};
 ghost use Rattle.refusal.specs.Numbers.{code};
 ghost use Rattle.storage.specs.Facts.{Good};
-ghost use Rattle.events.specs.Event.{event_buffer};
 ghost use Rattle.outcome.specs.Outcome.{Does};
 ghost use Rattle.handover.specs.Handover.{propose_outcome, pending_number, expired_number, accept_number, clear_pending, accept_outcome, proposal_ttl_outcome};
 
@@ -16,20 +15,20 @@ use refusal::Refusal;
 
 // 1, 3, 22; 14.
 pub fn propose_owner(img: &mut Image, head: Head, events: &mut Buffer) -> Answer
-    requires { Good img.old × (events.old ≡ event_buffer []) }
-    ensures { Does (propose_outcome img.old head.caller head.signers head.other head.timestamp) result img.new events.new }
+    requires { Good img.old }
+    ensures { Does (propose_outcome img.old head.caller.number head.signers head.other.number head.timestamp) result img.new events.new }
 {
-    checks::owner_gate(img, head.caller, head.signers)?;
-    refusal::refuse_if(head.other == 0, Refusal::InvalidParam)?;
+    checks::owner_gate(img, head.caller.number, head.signers)?;
+    refusal::refuse_if(head.other.number == 0, Refusal::InvalidParam)?;
     storage::set_flag(img, Flag::PendingOwner);
-    fields::put8(img, image::PENDING_OWNER, head.other);
-    fields::put8(img, image::PROPOSER, head.caller);
+    fields::put8(img, image::PENDING_OWNER, head.other.number);
+    fields::put8(img, image::PROPOSER, head.caller.number);
     fields::put64(img, image::PROPOSED_AT, head.timestamp);
     Ok(outcome::announce(
         events,
         Event::OwnerProposed {
-            caller: head.caller,
-            new_owner: head.other,
+            caller: head.caller.number,
+            new_owner: head.other.number,
         },
     ))
 }
@@ -38,14 +37,8 @@ pub fn propose_owner(img: &mut Image, head: Head, events: &mut Buffer) -> Answer
 fn pending_check(img: &Image, caller: u8) -> Result<(), Refusal>
     ensures { code result ≡ pending_number img.now caller }
 {
-    refusal::refuse_if(
-        !checks::has_flag(img, Flag::PendingOwner),
-        Refusal::NoPendingOwner,
-    )?;
-    refusal::refuse_if(
-        fields::get8(img, image::PENDING_OWNER) != caller,
-        Refusal::NotPendingOwner,
-    )
+    let pending = image::pending_owner(img).ok_or(Refusal::NoPendingOwner)?;
+    refusal::refuse_if(pending != caller, Refusal::NotPendingOwner)
 }
 
 // 7, 17.
@@ -62,10 +55,10 @@ fn expired_check(img: &Image, time: u64) -> Result<(), Refusal>
 
 // 15, 16; 22; 7, 17.
 fn accept_check(img: &Image, head: Head) -> Result<(), Refusal>
-    ensures { code result ≡ accept_number img.now head.caller head.signers head.timestamp }
+    ensures { code result ≡ accept_number img.now head.caller.number head.signers head.timestamp }
 {
-    pending_check(img, head.caller)?;
-    checks::signed_check(head.signers, head.caller)?;
+    pending_check(img, head.caller.number)?;
+    checks::signed_check(head.signers, head.caller.number)?;
     expired_check(img, head.timestamp)
 }
 
@@ -80,17 +73,17 @@ fn clear_pending(img: &mut Image)
 }
 
 pub fn accept_owner(img: &mut Image, head: Head, events: &mut Buffer) -> Answer
-    requires { Good img.old × (events.old ≡ event_buffer []) }
-    ensures { Does (accept_outcome img.old head.caller head.signers head.timestamp) result img.new events.new }
+    requires { Good img.old }
+    ensures { Does (accept_outcome img.old head.caller.number head.signers head.timestamp) result img.new events.new }
 {
     accept_check(img, head)?;
     let proposer = fields::get8(img, image::PROPOSER);
     clear_pending(img);
-    fields::put8(img, image::OWNER, head.caller);
+    fields::put8(img, image::OWNER, head.caller.number);
     Ok(outcome::announce(
         events,
         Event::OwnerAccepted {
-            caller: head.caller,
+            caller: head.caller.number,
             old_owner: proposer,
         },
     ))
@@ -98,17 +91,17 @@ pub fn accept_owner(img: &mut Image, head: Head, events: &mut Buffer) -> Answer
 
 // 1, 3, 22; 4.
 pub fn set_owner_proposal_ttl(img: &mut Image, head: Head, events: &mut Buffer) -> Answer
-    requires { Good img.old × (events.old ≡ event_buffer []) }
-    ensures { Does (proposal_ttl_outcome img.old head.caller head.signers head.time_to_live) result img.new events.new }
+    requires { Good img.old }
+    ensures { Does (proposal_ttl_outcome img.old head.caller.number head.signers head.time_to_live) result img.new events.new }
 {
-    checks::owner_gate(img, head.caller, head.signers)?;
+    checks::owner_gate(img, head.caller.number, head.signers)?;
     refusal::refuse_if(head.time_to_live == 0, Refusal::InvalidAmount)?;
     let old = fields::get64(img, image::TIME_TO_LIVE);
     fields::put64(img, image::TIME_TO_LIVE, head.time_to_live);
     Ok(outcome::announce(
         events,
         Event::OwnerProposalTtlSet {
-            caller: head.caller,
+            caller: head.caller.number,
             old_ttl: old,
             new_ttl: head.time_to_live,
         },

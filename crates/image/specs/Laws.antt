@@ -1,9 +1,8 @@
 -- Laws of the tests of an image.
-use Rattle.std.specs.Prelude.{◌≡◌, refl, Bool, true, false, List, ℕ, zero, suc, ◌+◌, ◌-◌, ◌*◌, ◌/◌, ◌^◌, ◌≤◌, ◌<◌, eqb, leb, length, set, replicate, drop, take}
+use Rattle.std.specs.Prelude.{◌≡◌, refl, Bool, true, false, List, ℕ, zero, suc, ◌+◌, ◌-◌, ◌*◌, ◌/◌, ◌≤◌, ◌<◌, eqb, leb, length, set, replicate, drop, take}
 use Rattle.std.proofs.Math.Path.{sym}
 use Rattle.std.proofs.Common.{ap, ◌∙◌, add-zero, le_antisymm, add-one, get_or-set_same, get_or-set_other, drop-drop, length-drop, length-take-le}
 use native.Mathlib.Omega.{arith}
-use Rattle.std.proofs.Math.Decide.{ℕ_discrete}
 use borrow.Author.Tests.{eqb-true, eqb-false, eq-eqb, ne_eqb, lt-ltb, le-ltb, le-leb, lt-leb, ltb-true, leb-true}
 use Rattle.std.proofs.Math.ListN.{get_or}
 use Rattle.std.proofs.lemmas.List.{get_or-replicate, get_or-take, drop-take}
@@ -11,7 +10,6 @@ use Rattle.std.specs.List.{list_all}
 use Rattle.std.specs.Simd.{first_chunks}
 use Rattle.fields.specs.Bytes.{le, le-drop}
 use Rattle.amount.specs.Biased.{amount_at, bias}
-use Rattle.amount.specs.Laws.{bias_parts, amount_at_zero}
 use Rattle.image.specs.Layout.{tracked_key, default_token}
 use Rattle.fields.specs.Logic.{◌and◌, ◌or◌, and_l, and_r, and_i, and_false, false_and, true_and, and_is, and_assoc, all_none, all-step, all_stop, all_end}
 use Rattle.fields.specs.Zeros.{each}
@@ -73,14 +71,6 @@ pub not_negatives_chunks : (n : ℕ) (l : List ℕ) → list_all not_negative_he
 unfolding not_negatives each
 not_negatives_chunks zero l = refl
 not_negatives_chunks (suc n) l = rw (and_is (not_negative_here (take 16 l)) (list_all not_negative_here (first_chunks 16 n (drop 16 l))), here-take 16 l (omega arith), not_negatives_chunks n (drop 16 l))
-
-pub both_zero : (l : List ℕ) (at : ℕ) → ((i : ℕ) → get_or l i 0 < 256) → eqb (le 8 l at) 0 and eqb (le 8 l (at + 8)) 0 ≡ eqb (amount_at l at) bias
-both_zero l at h = go (ℕ_discrete (le 8 l at) 0) (ℕ_discrete (le 8 l (at + 8)) 0)
-  where
-    go : Dec (le 8 l at ≡ 0) → Dec (le 8 l (at + 8) ≡ 0) → eqb (le 8 l at) 0 and eqb (le 8 l (at + 8)) 0 ≡ eqb (amount_at l at) bias
-    go (yes p) (yes q) = unfold amount_at ◌and◌ in rw (p, q) (sym (eq-eqb (2 ^ 63 * 2 ^ 64 + 0) bias (add-zero (2 ^ 63 * 2 ^ 64) ∙ sym bias_parts)))
-    go (yes p) (no q) = unfold ◌and◌ in rw (p, ne_eqb (le 8 l (at + 8)) 0 q, ne_eqb (amount_at l at) bias (λ e. q (amount_at_zero l at h e).1))
-    go (no p) q = rw (ne_eqb (le 8 l at) 0 p, ne_eqb (amount_at l at) bias (λ e. p (amount_at_zero l at h e).0)) (false_and _)
 
 -- ---- the keys seen
 -- t is true at each key among the first i

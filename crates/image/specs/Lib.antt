@@ -4,3 +4,4 @@ pub mod Good
 pub mod Laws
 pub mod Flags
 pub mod Kinds
+pub mod Keys

@@ -4,9 +4,9 @@ ghost use Rattle.image.specs.Kinds.{kind_of, kind_number};
 
 #[derive(Clone, Copy, Debug, PartialEq, Eq)]
 pub enum Kind {
-    Absent,
-    Moving,
-    Frozen,
+    Absent = 0,
+    Moving = 1,
+    Frozen = 2,
 }
 
 // A number above 2 is no kind's.
@@ -29,10 +29,6 @@ impl From<Kind> for u64 {
     ghost from_gives = { λ kind n. n ≡ kind_number kind };
 
     fn from(kind: Kind) -> u64 {
-        match kind {
-            Kind::Absent => 0,
-            Kind::Moving => 1,
-            Kind::Frozen => 2,
-        }
+        kind as u64
     }
 }

@@ -4,13 +4,15 @@
 mod address;
 mod flag;
 mod kind;
+mod options;
 mod places;
 
-ghost use Rattle.std.specs.Prelude.{◌≡◌, ◌+◌, ◌*◌, ◌/◌, ◌≤◌, ◌<◌, ltb, leb, eqb, length};
+ghost use Rattle.std.specs.Prelude.{List, ℕ, MatchOption, IfSome, ◌≡◌, ◌+◌, ◌*◌, ◌/◌, ◌≤◌, ◌<◌, ltb, leb, eqb, length};
 ghost use Rattle.fields.specs.Bytes.{le, put};
 ghost use Rattle.amount.specs.Biased.{amount_at, bias, num};
 ghost use Rattle.image.specs.Kinds.{kind_of, kind_number};
-ghost use Rattle.image.specs.Layout.{slot, kind, token_at};
+ghost use Rattle.image.specs.Layout.{slot, kind, token_at, tracked_count};
+ghost use Rattle.image.specs.Keys.{AreTracked};
 ghost use Rattle.fields.specs.Logic.{all};
 ghost use Rattle.image.specs.Good.{
   not_negatives,
@@ -32,8 +34,10 @@ ghost use Rattle.image.specs.Good.{
 };
 
 pub use address::{Address, Token, contains};
+use amount::Amount;
 pub use flag::{Flag, has_flag};
 pub use kind::Kind;
+pub use options::{Snapshot, cap, operator, operator_limit, pending_owner, vault_snapshot};
 pub use places::{
     APPROVED_SET, CAPPED_SET, CAPS, CREDITS, DEFAULT_TOKEN, DESTINATION, EXECUTABLE_AT, FLAGS,
     HOLDINGS, MIGRATION_PROPOSED_AT, OPERATOR, OPERATOR_LIMIT, OWNER, PENDING_OWNER, PROPOSED_AT,
@@ -78,12 +82,12 @@ fn above_at(s: &[u8], at: usize) -> bool
     amount::read_amount(s, at).is_positive()
 }
 
-#[tactic(auto, using(fields::specs::Logic::and_is, crate::specs::Laws::both_zero))]
+#[tactic(auto, using(crate::proofs::AmountTests::is_zero))]
 fn nothing_at(s: &[u8], at: usize) -> bool
     requires { at + 16 ≤ length s.now }
     ensures { result ≡ eqb (amount_at s.now at) bias }
 {
-    zero64_at(s, at) & zero64_at(s, at + 8)
+    amount::read_amount(s, at) == Amount::ZERO
 }
 
 fn not_negative_at(s: &[u8], at: usize) -> bool
@@ -135,6 +139,7 @@ fn good_defaults(s: &Image) -> bool
     above_at(s, VAULT_LIMIT) & (fields::get64(s, TIME_TO_LIVE) > 0) & is_present
 }
 
+// `good_migration` tests other fields in other widths, of which each is a name of the format.
 fn good_pending(s: &Image) -> bool
     ensures { result ≡ good_pending s.now }
 {
@@ -180,32 +185,46 @@ fn good_head(s: &Image) -> bool
 }
 
 #[tactic(auto, unfolding(crate::specs::Flags::in_set, crate::specs::Good::good_cap))]
-fn good_cap(s: &Image, a: u8) -> bool
-    requires { a < 64 }
-    ensures { result ≡ good_cap s.now a }
+fn good_cap(s: &Image, a: Address) -> bool
+    ensures { result ≡ good_cap s.now a.number }
 {
     let set = fields::get64(s, CAPPED_SET);
-    above_where(s, CAPS + 16 * usize::from(a), contains(set, a))
+    above_where(s, cap_at(a), contains(set, a.number))
 }
 
+// `good_tokens` is the same of another test and number; a function of those two would be `all`.
 fn good_caps(s: &Image) -> bool
     ensures { result ≡ all (good_cap s.now) 64 }
 {
-    (0..64).all(|a| good_cap(s, a))
+    (0..64).all(
+        |number|
+            requires { number < 64 }
+        { good_cap(s, Address { number }) },
+    )
 }
 
+// The tracked keys, two bytes each, where there are no more of them than an image has room for.
+pub fn tracked_keys(img: &Image) -> Option<&[[u8; 2]]>
+    ensures count { MatchOption result (1088 < tracked_count img.now) (λ keys. (tracked_count img.now ≤ 1088) × (length keys.now ≡ tracked_count img.now)) }
+    ensures keys { IfSome result (λ keys. AreTracked img.now keys.now) }
+{
+    let n = usize::try_from(fields::get64(img, TRACKED_COUNT)).ok()?;
+    if n > 1088 {
+        return None;
+    }
+    let (keys, _) = img[TRACKED_KEYS..TRACKED_KEYS + 2 * n].as_chunks::<2>();
+    Some(keys)
+}
+
+// Whether all keys are below 1,088, and no two the same.
 #[tactic(auto, using(crate::specs::Laws::each_tested, crate::specs::Laws::seen_none))]
-fn fresh_keys(s: &Image, n: usize) -> bool
-    requires { n ≤ 1088 }
-    ensures { result ≡ all (fresh_key s.now) n }
+fn fresh_keys(keys: &[[u8; 2]]) -> bool
+    ensures { (l : List ℕ) → AreTracked l keys.now → result ≡ all (fresh_key l) (length keys.now) }
 {
     let mut seen = [false; 1088];
-    for i in 0..n {
-        let k = usize::from(fields::get16(s, TRACKED_KEYS + 2 * i));
-        if k >= 1088 {
-            return false;
-        }
-        if seen[k] {
+    for key in keys {
+        let k = usize::from(u16::from_le_bytes(*key));
+        if k >= 1088 || seen[k] {
             return false;
         }
         seen[k] = true;
@@ -217,19 +236,16 @@ fn fresh_keys(s: &Image, n: usize) -> bool
 fn good_keys(s: &Image) -> bool
     ensures { result ≡ good_keys s.now }
 {
-    let n = fields::get64(s, TRACKED_COUNT);
-    if n > 1088 {
+    let Some(keys) = tracked_keys(s) else {
         return false;
-    }
-    let m = n as usize;
-    fresh_keys(s, m) & fields::are_zero(&s[TRACKED_KEYS + 2 * m..TRACKED_KEYS + 2176])
+    };
+    fresh_keys(keys) & fields::are_zero(&s[TRACKED_KEYS + 2 * keys.len()..TOKENS])
 }
 
-fn good_snapshot(s: &Image, t: usize) -> bool
-    requires { t < 16 }
-    ensures { result ≡ good_snapshot s.now t }
+fn good_snapshot(s: &Image, token: Token) -> bool
+    ensures { result ≡ good_snapshot s.now (slot token.address) }
 {
-    let at = SNAPSHOTS + 24 * t;
+    let at = snapshot_at(token);
     let present = fields::get32(s, at);
     let ledger = fields::get32(s, at + 4);
     let nothing = nothing_at(s, at + 8);
@@ -237,48 +253,51 @@ fn good_snapshot(s: &Image, t: usize) -> bool
 }
 
 #[tactic(auto, unfolding(crate::specs::Good::good_absent), using(fields::specs::Logic::and_is, fields::specs::Logic::and_assoc, fields::specs::Zeros::zeros_part))]
-fn good_absent(s: &Image, t: usize) -> bool
-    requires { t < 16 }
-    ensures { result ≡ good_absent s.now t }
+fn good_absent(s: &Image, token: Token) -> bool
+    ensures { result ≡ good_absent s.now (slot token.address) }
 {
-    let a = nothing_at(s, TOLLS + 24 * t);
-    let present = fields::get32(s, SNAPSHOTS + 24 * t);
+    let t = token.slot();
+    let a = nothing_at(s, toll_at(token));
+    let present = fields::get32(s, snapshot_at(token));
     let h = fields::are_zero(&s[HOLDINGS + 1024 * t..HOLDINGS + 1024 * (t + 1)]);
     let c = fields::are_zero(&s[CREDITS + 1024 * t..CREDITS + 1024 * (t + 1)]);
     a & (present == 0) & h & c
 }
 
 #[tactic(auto, unfolding(crate::specs::Good::good_present), using(fields::specs::Logic::and_is, fields::specs::Logic::and_assoc, crate::specs::Laws::not_negatives_part))]
-fn good_present(s: &Image, t: usize) -> bool
-    requires { t < 16 }
-    ensures { result ≡ good_present s.now t }
+fn good_present(s: &Image, token: Token) -> bool
+    ensures { result ≡ good_present s.now (slot token.address) }
 {
-    let a = not_negative_at(s, TOLLS + 24 * t);
+    let t = token.slot();
+    let a = not_negative_at(s, toll_at(token));
     let h = not_negatives(&s[HOLDINGS + 1024 * t..HOLDINGS + 1024 * (t + 1)]);
     let c = not_negatives(&s[CREDITS + 1024 * t..CREDITS + 1024 * (t + 1)]);
     a & h & c
 }
 
 #[tactic(auto, unfolding(crate::specs::Good::good_token), using(crate::specs::Laws::known_tests, crate::proofs::KindTests::is_absent))]
-fn good_token(s: &Image, t: usize) -> bool
-    requires { t < 16 }
-    ensures { result ≡ good_token s.now t }
+fn good_token(s: &Image, token: Token) -> bool
+    ensures { result ≡ good_token s.now (slot token.address) }
 {
-    let Ok(kind) = Kind::try_from(fields::get64(s, TOKENS + 24 * t)) else {
+    let Ok(kind) = Kind::try_from(fields::get64(s, token_at(token))) else {
         return false;
     };
-    let known = good_snapshot(s, t);
+    let known = good_snapshot(s, token);
     if kind == Kind::Absent {
-        known & good_absent(s, t)
+        known & good_absent(s, token)
     } else {
-        known & good_present(s, t)
+        known & good_present(s, token)
     }
 }
 
 fn good_tokens(s: &Image) -> bool
     ensures { result ≡ all (good_token s.now) 16 }
 {
-    (0..16).all(|t| good_token(s, t))
+    (0..16).all(
+        |t|
+            requires { t < 16 }
+        { good_token(s, Token { address: 48 + t }) },
+    )
 }
 
 // Of a good image no number is above 2.

@@ -51,7 +51,7 @@ pub const HOLDINGS: usize = 4064;
 
 pub const CREDITS: usize = 20448;
 
-// Each gives one place of the format.
+// Each gives one place of the format. Holdings and credits are laid out alike, and are two names of the format.
 pub fn cap_at(a: Address) -> usize
     ensures { (result ≡ cap_at a.number) × (result + 16 ≤ image_length) }
 {

@@ -1,13 +1,12 @@
 // Operations 21 to 23: the emergency migration of the vault's holding to a destination (lib.rs).
 #![tactic(auto, unfolding(fields::specs::Rules::chain, fields::specs::Rules::or_else, fields::specs::Rules::verdict, crate::specs::Migration::proposal_number, crate::specs::Migration::initiate_number, crate::specs::Migration::initiate_outcome, crate::specs::Migration::no_migration_number, crate::specs::Migration::early_number, crate::specs::Migration::execute_checks, crate::specs::Migration::migrate_number, crate::specs::Migration::migrate_holding, crate::specs::Migration::execute_number, crate::specs::Migration::clear_migration, crate::specs::Migration::execute_outcome, crate::specs::Migration::cancel_number, crate::specs::Migration::cancel_outcome), using(outcome::specs::Outcome::refused, outcome::specs::Outcome::announced))]
 
-ghost use Rattle.std.specs.Prelude.{IfOk, OnOk, ◌≡◌, [], ◌+◌};
+ghost use Rattle.std.specs.Prelude.{IfOk, OnOk, ◌≡◌, ◌+◌};
 ghost use Rattle.refusal.specs.Numbers.{code};
 ghost use Rattle.amount.specs.Biased.{biased};
 ghost use Rattle.image.specs.Layout.{initialised};
 ghost use Rattle.storage.specs.Facts.{Good};
 ghost use Rattle.token.specs.Token.{vault_balance};
-ghost use Rattle.events.specs.Event.{event_buffer};
 ghost use Rattle.outcome.specs.Outcome.{Does};
 ghost use Rattle.migration.specs.Migration.{timelock, proposal_number, initiate_outcome, no_migration_number, execute_checks, migrate_number, migrate_holding, clear_migration, execute_outcome, cancel_outcome};
 
@@ -33,20 +32,20 @@ fn proposal_check(to: u8, time: u64) -> Result<u64, Refusal>
 
 // 1, 3, 22; 14, 7.
 pub fn initiate_emergency_migration(img: &mut Image, head: Head, events: &mut Buffer) -> Answer
-    requires { Good img.old × (events.old ≡ event_buffer []) }
-    ensures { Does (initiate_outcome img.old head.caller head.signers head.other head.timestamp) result img.new events.new }
+    requires { Good img.old }
+    ensures { Does (initiate_outcome img.old head.caller.number head.signers head.other.number head.timestamp) result img.new events.new }
 {
-    checks::owner_gate(img, head.caller, head.signers)?;
-    let executable_at = proposal_check(head.other, head.timestamp)?;
+    checks::owner_gate(img, head.caller.number, head.signers)?;
+    let executable_at = proposal_check(head.other.number, head.timestamp)?;
     storage::set_flag(img, Flag::Migration);
-    fields::put8(img, image::DESTINATION, head.other);
+    fields::put8(img, image::DESTINATION, head.other.number);
     fields::put64(img, image::MIGRATION_PROPOSED_AT, head.timestamp);
     fields::put64(img, image::EXECUTABLE_AT, executable_at);
     Ok(outcome::announce(
         events,
         Event::EmergencyMigrationInitiated {
-            caller: head.caller,
-            destination: head.other,
+            caller: head.caller.number,
+            destination: head.other.number,
             executable_at,
         },
     ))
@@ -64,9 +63,9 @@ fn migration_check(img: &Image) -> Result<(), Refusal>
 
 // 1, 3, 22; 20; 21.
 fn execute_check(img: &Image, head: Head) -> Result<(), Refusal>
-    ensures { code result ≡ execute_checks img.now head.caller head.signers head.timestamp }
+    ensures { code result ≡ execute_checks img.now head.caller.number head.signers head.timestamp }
 {
-    checks::owner_gate(img, head.caller, head.signers)?;
+    checks::owner_gate(img, head.caller.number, head.signers)?;
     migration_check(img)?;
     refusal::refuse_if(
         head.timestamp < fields::get64(img, image::EXECUTABLE_AT),
@@ -88,7 +87,7 @@ fn migrate_holding(img: &mut Image, held: Amount) -> Result<(), Refusal>
     let to = Address {
         number: fields::get8(img, image::DESTINATION),
     };
-    token::transfer(img, t, token::VAULT, to, held)
+    token::transfer(img, usize::from(t), token::VAULT, to, held)
 }
 
 fn clear_migration(img: &mut Image)
@@ -103,8 +102,8 @@ fn clear_migration(img: &mut Image)
 
 #[tactic(auto, unfolding(fields::specs::Rules::chain, fields::specs::Rules::or_else, crate::specs::Migration::execute_number, crate::specs::Migration::execute_outcome), using(crate::proofs::Laws::checks_free, crate::proofs::Laws::held_range, crate::proofs::Laws::good_migrate, outcome::specs::Outcome::refused, outcome::specs::Outcome::accepted))]
 pub fn execute_emergency_migration(img: &mut Image, head: Head, events: &mut Buffer) -> Answer
-    requires { Good img.old × (events.old ≡ event_buffer []) }
-    ensures { Does (execute_outcome img.old head.caller head.signers head.timestamp) result img.new events.new }
+    requires { Good img.old }
+    ensures { Does (execute_outcome img.old head.caller.number head.signers head.timestamp) result img.new events.new }
 {
     execute_check(img, head)?;
     let to = fields::get8(img, image::DESTINATION);
@@ -114,7 +113,7 @@ pub fn execute_emergency_migration(img: &mut Image, head: Head, events: &mut Buf
     Ok(outcome::announce_value(
         events,
         Event::EmergencyMigrationExecuted {
-            caller: head.caller,
+            caller: head.caller.number,
             destination: to,
             amount: held,
         },
@@ -124,16 +123,16 @@ pub fn execute_emergency_migration(img: &mut Image, head: Head, events: &mut Buf
 
 // 1, 3, 22; 20.
 pub fn cancel_emergency_migration(img: &mut Image, head: Head, events: &mut Buffer) -> Answer
-    requires { Good img.old × (events.old ≡ event_buffer []) }
-    ensures { Does (cancel_outcome img.old head.caller head.signers) result img.new events.new }
+    requires { Good img.old }
+    ensures { Does (cancel_outcome img.old head.caller.number head.signers) result img.new events.new }
 {
-    checks::owner_gate(img, head.caller, head.signers)?;
+    checks::owner_gate(img, head.caller.number, head.signers)?;
     migration_check(img)?;
     clear_migration(img);
     Ok(outcome::announce(
         events,
         Event::EmergencyMigrationCancelled {
-            caller: head.caller,
+            caller: head.caller.number,
         },
     ))
 }

@@ -32,7 +32,7 @@ abbrev pub count_of : Answer → ℕ
 count_of (Ok d) = d.events
 count_of (Err e) = 0
 
--- What the function of an operation owes: it runs on a copy of the image and on a blank event buffer, and may leave both changed where it refuses.
+-- What the function of an operation owes: it runs on a copy of the image and on any event buffer, and may leave both changed where it refuses.
 pub record Does (o : Outcome) (a : Answer) (image events : List ℕ) : Type 0 where
   pub numbered : code a ≡ o.number
   pub valued : IfOk a (λ d. biased d.value ≡ bias + o.value)

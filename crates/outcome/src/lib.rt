@@ -39,21 +39,27 @@ impl Done {
     }
 }
 
-// Done with no value and one event.
+// Done with no value and no event, which the buffer then says.
+#[tactic(auto, using(amount::specs::Order::biased_zero))]
+pub fn announce_nothing(events: &mut Buffer) -> Done
+    ensures { (biased result.value ≡ bias) × (result.events ≡ 0) × (events.new ≡ event_buffer []) }
+{
+    events::clear_events(events);
+    Done::new(0)
+}
+
+// Done with no value and one event, which the buffer then holds alone.
 #[tactic(auto, using(amount::specs::Order::biased_zero))]
 pub fn announce(events: &mut Buffer, event: Event) -> Done
-    requires { events.old ≡ event_buffer [] }
     ensures { Announced (fields_of event) result events.new }
 {
     announce_value(events, event, Amount::ZERO)
 }
 
 // Done with a value and one event.
-#[tactic(auto, using(events::specs::Buffer::written_one))]
 pub fn announce_value(events: &mut Buffer, event: Event, value: Amount) -> Done
-    requires { events.old ≡ event_buffer [] }
     ensures { (biased result.value ≡ biased value) × (result.events ≡ 1) × (events.new ≡ event_buffer (fields_of event ∷ [])) }
 {
-    events::put_event(events, 0, event);
+    events::write_one(events, event);
     Done { value, events: 1 }
 }

@@ -1,7 +1,9 @@
--- A turn of each loop over the items of a record. The number n of items left is an equation, so that a loop's count - i and i + 1 fit.
-use mathlib.Core.Path.{◌≡◌, refl, sym, ap, ◌∙◌}
+-- The loops over the items of a record: what holds after i of count of them.
+use mathlib.Core.Path.{◌≡◌, sym, ap, ◌∙◌}
 use mathlib.Core.List.{List, [], ◌∷◌}
 use Prim.Native.Nat.{ℕ, suc, ◌+◌, ◌-◌, ◌≤◌, ◌<◌}
+use native.Mathlib.Omega.{arith}
+use native.Mathlib.Nat.{sub-zero}
 use Rattle.book.specs.Moves.{still_begun}
 use Rattle.record.specs.Record.{item_address, item_amount}
 use Rattle.storage.specs.Facts.{Good}
@@ -10,92 +12,105 @@ use Rattle.amount.specs.Biased.{bias}
 use Rattle.fields.specs.Rules.{or_go, or_stop, or_none}
 use Rattle.payouts.specs.Parts.{put_events, Pays, Payable}
 use Rattle.payouts.proofs.Moved.{pay_moves}
-use Rattle.payouts.specs.Payouts.{Payout, payout, items, item_number, items_number, items_sum, pay_number, payouts_number, payouts_image, payouts_events}
+use Rattle.payouts.specs.Payouts.{payout, items, item_number, items_number, items_sum, pay_number, payouts_number, payouts_image, payouts_events}
 
-module _ (n i : ℕ) (r : List ℕ) where
-  items_end : n ≡ 0 → items n i r ≡ []
+module _ (r : List ℕ) (count i : ℕ) where
+  items_end : count - i ≡ 0 → items (count - i) i r ≡ []
   unfolding items
   items_end e = rw e
 
-  items-next : (m j : ℕ) → n ≡ suc m → j ≡ suc i → items n i r ≡ payout (item_address r i) (item_amount r i) ∷ items m j r
+  items_next : i < count → items (count - i) i r ≡ payout (item_address r i) (item_amount r i) ∷ items (count - (i + 1)) (i + 1) r
   unfolding items
-  items-next m j e f = rw (e, f)
+  items_next h =
+      let e : count - i ≡ suc (count - (i + 1)) = omega arith in
+      let f : i + 1 ≡ suc i = omega arith in
+      rw (e, f)
 
--- ---- the sum
-pub sum-start : (c n : ℕ) (r : List ℕ) (s : ℕ) → n ≡ c → s ≡ bias → (items_number (items c 0 r) bias ≡ items_number (items n 0 r) s) × (items_sum (items c 0 r) bias ≡ items_sum (items n 0 r) s)
-sum-start c n r s e f = rw (e, f) (refl, refl)
+-- ---- the sum: s is that of the first i items
+pub record Added (r : List ℕ) (count i s : ℕ) : Type 0 where
+  pub number : items_number (items count 0 r) bias ≡ items_number (items (count - i) i r) s
+  pub sum : items_sum (items count 0 r) bias ≡ items_sum (items (count - i) i r) s
 
-pub sum_end : (n i : ℕ) (r : List ℕ) (s : ℕ) → n ≡ 0 → (items_number (items n i r) s ≡ 0) × (items_sum (items n i r) s ≡ s)
-unfolding items_number items_sum
-sum_end n i r s e = rw (items_end n i r e) (refl, refl)
+pub sum_begins : (r : List ℕ) (count s : ℕ) → s ≡ bias → Added r count 0 s
+sum_begins r count s e = record { number = rw (sub-zero, e); sum = rw (sub-zero, e) }
 
--- a is the item's amount, k the number of its check, s the sum before it and s' the sum after it
-module _ (n m i j : ℕ) (r : List ℕ) (s a : ℕ) {k : ℕ} (e : n ≡ suc m) (f : j ≡ suc i) (p : a ≡ item_amount r i) (q : k ≡ item_number s a) where
-  pub sum_stop : (k ≡ 0 → ⊥) → k ≡ items_number (items n i r) s
-  unfolding items_number
-  sum_stop z =
-      let w : k ≡ item_number s (item_amount r i) = rw p at q in
-      rw (items-next n i r m j e f) (w ∙ or_stop _ _ (λ y. z (w ∙ y)))
+module _ (r : List ℕ) (count i s : ℕ) (w : Added r count i s) where
+  -- a turn: a is the item's amount, k the number of its check
+  module _ {a k : ℕ} (h : i < count) (p : a ≡ item_amount r i) (q : k ≡ item_number s a) where
+    checked : k ≡ item_number s (item_amount r i)
+    checked = rw p at q
 
-  pub sum_turn : (s' : ℕ) → s' ≡ s + a - bias → k ≡ 0
-      → (items_number (items n i r) s ≡ items_number (items m j r) s') × (items_sum (items n i r) s ≡ items_sum (items m j r) s')
+    pub sum_stops : (k ≡ 0 → ⊥) → k ≡ items_number (items count 0 r) bias
+    unfolding items_number
+    sum_stops z = checked ∙ or_stop _ _ (λ y. z (checked ∙ y)) ∙ sym (rw (items_next r count i h) at w.number)
+
+    pub sum_goes_on : {t : ℕ} → k ≡ 0 → t ≡ s + a - bias → Added r count (i + 1) t
+    unfolding items_number items_sum
+    sum_goes_on z e =
+        let n = items_next r count i h in
+        rw (e, p) (record { number = (rw n at w.number) ∙ or_go _ (sym checked ∙ z); sum = rw n at w.sum })
+
+  pub sum_ends : count - i ≡ 0 → (0 ≡ items_number (items count 0 r) bias) × (s ≡ items_sum (items count 0 r) bias)
   unfolding items_number items_sum
-  sum_turn s' g z =
-      let w : k ≡ item_number s (item_amount r i) = rw p at q in
-      let y : s' ≡ s + item_amount r i - bias = rw p at g in
-      rw (items-next n i r m j e f, y) (or_go _ (sym w ∙ z), refl)
+  sum_ends z = let n = items_end r count i z in (sym (rw n at w.number), sym (rw n at w.sum))
 
--- ---- the payouts: from image l and events e with payouts ps to image m and events v with i of them made and qs left
-pub record Paying (t seq caller by : ℕ) (ps : List Payout) (l e : List ℕ) (i : ℕ) (qs : List Payout) (m v : List ℕ) : Type 0 where
+-- ---- the payouts: m and v are image and events after the first i of them, l and e those at first
+pub record Paying (r : List ℕ) (t seq caller by count : ℕ) (l e : List ℕ) (i : ℕ) (m v : List ℕ) : Type 0 where
   pub good : Good m
   pub begun : initialised m ≡ 1
-  pub payable : Payable qs
-  pub numbered : payouts_number ps t seq l ≡ payouts_number qs t seq m
-  pub changed : payouts_image ps t seq l ≡ payouts_image qs t seq m
-  pub written : put_events e 0 (payouts_events ps t seq caller by l) ≡ put_events v i (payouts_events qs t seq caller by m)
+  pub payable : Payable (items (count - i) i r)
+  pub numbered : payouts_number (items count 0 r) t seq l ≡ payouts_number (items (count - i) i r) t seq m
+  pub changed : payouts_image (items count 0 r) t seq l ≡ payouts_image (items (count - i) i r) t seq m
+  pub written : put_events e 0 (payouts_events (items count 0 r) t seq caller by l) ≡ put_events v i (payouts_events (items (count - i) i r) t seq caller by m)
 
-module _ {t seq caller by : ℕ} {ps : List Payout} {l e : List ℕ} (n i : ℕ) (r : List ℕ) {m v : List ℕ} (w : Paying t seq caller by ps l e i (items n i r) m v) where
-  pub pay_end : n ≡ 0 → Pays ps t seq caller by l e 0 0 m v
-  unfolding payouts_number payouts_image payouts_events put_events
-  pay_end z =
-      let x : Paying t seq caller by ps l e i [] m v = rw (items_end n i r z) at w in
-      record { numbered = sym x.numbered; changed = λ _. sym x.changed; written = λ _. sym x.written }
+module _ (r : List ℕ) (t seq caller by count : ℕ) {l e : List ℕ} where
+  pub pay_begins : Good l → initialised l ≡ 1 → Payable (items count 0 r) → Paying r t seq caller by count l e 0 l e
+  pay_begins g b a = record { good = g; begun = b; payable = rw sub-zero a; numbered = rw sub-zero; changed = rw sub-zero; written = rw sub-zero }
 
-  -- a turn; to and a are the item's, k its payout's number, m' and v' image and events after it
-  module _ (o j : ℕ) (f : n ≡ suc o) (h : j ≡ suc i) where
-    next : Paying t seq caller by ps l e i (payout (item_address r i) (item_amount r i) ∷ items o j r) m v
-    next = rw (items-next n i r o j f h) at w
+  module _ (i : ℕ) {m v : List ℕ} (w : Paying r t seq caller by count l e i m v) where
+    pub pay_ends : count - i ≡ 0 → Pays (items count 0 r) t seq caller by l e 0 0 m v
+    unfolding payouts_number payouts_image payouts_events put_events
+    pay_ends z =
+        let n = items_end r count i z in
+        record { numbered = sym (rw n at w.numbered); changed = λ _. sym (rw n at w.changed); written = λ _. sym (rw n at w.written) }
 
-    pub payee : {to : ℕ} → to ≡ item_address r i → to < 64
-    payee p = rw p next.payable.0.0
+    -- a turn
+    module _ (h : i < count) where
+      due : Payable (payout (item_address r i) (item_amount r i) ∷ items (count - (i + 1)) (i + 1) r)
+      due = rw (items_next r count i h) at w.payable
 
-    pub amount : {a : ℕ} → a ≡ item_amount r i → bias ≤ a
-    amount p = rw p next.payable.0.1
+      pub amount : {a : ℕ} → a ≡ item_amount r i → bias ≤ a
+      amount p = rw p due.0.1
 
-    module _ {to a k : ℕ} {m' v' : List ℕ} (p : to ≡ item_address r i) (q : a ≡ item_amount r i) (d : Pays (payout to a ∷ []) t seq caller by m v i k m' v') where
-      made : Pays (payout (item_address r i) (item_amount r i) ∷ []) t seq caller by m v i k m' v'
-      made = rw (p, q) at d
+      -- to and a are the item's, k its payout's number, m' and v' image and events after it
+      module _ {to a k : ℕ} {m' v' : List ℕ} (p : to ≡ item_address r i) (q : a ≡ item_amount r i) (d : Pays (payout to a ∷ []) t seq caller by m v i k m' v') where
+        made : Pays (payout (item_address r i) (item_amount r i) ∷ []) t seq caller by m v i k m' v'
+        made = rw (p, q) at d
 
-      pub pay_stop : (k ≡ 0 → ⊥) → k ≡ payouts_number ps t seq l
-      unfolding payouts_number
-      pay_stop z =
-          let c : k ≡ pay_number m t (item_address r i) (item_amount r i) = made.numbered ∙ or_none _ in
-          c ∙ or_stop _ _ (λ y. z (c ∙ y)) ∙ sym next.numbered
+        first : k ≡ pay_number m t (item_address r i) (item_amount r i)
+        unfolding payouts_number
+        first = made.numbered ∙ or_none _
 
-      pub pay_turn : k ≡ 0 → Paying t seq caller by ps l e j (items o j r) m' v'
-      unfolding payouts_number payouts_image payouts_events put_events
-      pay_turn z =
-          let c : pay_number m t (item_address r i) (item_amount r i) ≡ 0 = sym (made.numbered ∙ or_none _) ∙ z in
-          let u = pay_moves m t seq (item_address r i) (item_amount r i) next.good next.begun next.payable.0.0 next.payable.0.1 c in
-          let one = payout (item_address r i) (item_amount r i) ∷ [] in
-          let m'' : List ℕ = payouts_image one t seq m in
-          let v'' : List ℕ = put_events v i (payouts_events one t seq caller by m) in
-          rw (made.changed z, made.written z)
-          (record {
-            good = u.good;
-            begun = still_begun u next.begun;
-            payable = next.payable.1;
-            numbered = next.numbered ∙ or_go _ c;
-            changed = next.changed;
-            written = next.written ∙ ap (λ (x : ℕ). put_events v'' x (payouts_events (items o j r) t seq caller by m'')) (sym h);
-          })
+        pub pay_stops : (k ≡ 0 → ⊥) → k ≡ payouts_number (items count 0 r) t seq l
+        unfolding payouts_number
+        pay_stops z = first ∙ or_stop _ _ (λ y. z (first ∙ y)) ∙ sym (rw (items_next r count i h) at w.numbered)
+
+        pub pay_goes_on : k ≡ 0 → Paying r t seq caller by count l e (i + 1) m' v'
+        unfolding payouts_number payouts_image payouts_events put_events
+        pay_goes_on z =
+            let c : pay_number m t (item_address r i) (item_amount r i) ≡ 0 = sym first ∙ z in
+            let n = items_next r count i h in
+            let u = pay_moves m t seq (item_address r i) (item_amount r i) w.good w.begun due.0.0 due.0.1 c in
+            let one = payout (item_address r i) (item_amount r i) ∷ [] in
+            let m'' : List ℕ = payouts_image one t seq m in
+            let v'' : List ℕ = put_events v i (payouts_events one t seq caller by m) in
+            let j : suc i ≡ i + 1 = omega arith in
+            rw (made.changed z, made.written z)
+            (record {
+              good = u.good;
+              begun = still_begun u w.begun;
+              payable = due.1;
+              numbered = (rw n at w.numbered) ∙ or_go _ c;
+              changed = rw n at w.changed;
+              written = (rw n at w.written) ∙ ap (λ (x : ℕ). put_events v'' x (payouts_events (items (count - (i + 1)) (i + 1) r) t seq caller by m'')) j;
+            })

@@ -1,5 +1,5 @@
 -- The steps of a payout, from what the functions called say.
-use mathlib.Core.Path.{◌≡◌, refl, sym, ap, ◌∙◌}
+use mathlib.Core.Path.{◌≡◌, refl, sym, ◌∙◌}
 use mathlib.Core.Bool.{Bool, true, false}
 use mathlib.Core.List.{List, [], ◌∷◌}
 use Prim.Native.Nat.{ℕ, ◌+◌, ◌-◌, ◌≤◌, ◌<◌}
@@ -23,11 +23,11 @@ use Rattle.token.specs.Laws.{transfer_free, transfer_done}
 use Rattle.storage.specs.Setters.{set_credit, record_balance}
 use Rattle.image.specs.Layout.{slot, holding, credit}
 use Rattle.amount.specs.Biased.{bias, biased}
-use Rattle.fields.specs.Rules.{pick, eq, when, verdict, stop_at, only_where, or_else, or_none, chain, ends_at}
+use Rattle.fields.specs.Rules.{pick, eq, when, verdict, stop_at, or_else, or_none, chain}
 use Rattle.payouts.specs.Laws.{items-length}
 use Rattle.payouts.specs.Parts.{put_events, Pays}
 use Rattle.payouts.specs.Token.{take_credit}
-use Rattle.payouts.specs.Payouts.{Payout, payout, items, no_item_rules, no_item_number, item_number, items_number, items_sum, withdraw_checks, held_after, remaining_number, pay_number, pay_image, payouts_number, payouts_image, payouts_events}
+use Rattle.payouts.specs.Payouts.{Payout, payout, items, no_item_rules, no_item_number, item_number, items_number, items_sum, withdraw_checks, pay_number, pay_image, payouts_number, payouts_image, payouts_events}
 
 -- ---- credits: c is the credit read
 module _ (l : List ℕ) (t a n : ℕ) {c : ℕ} (e : c ≡ credit l (slot t) a) where
@@ -78,21 +78,9 @@ module _ (l : List ℕ) (t to n : ℕ) where
   pub had : {h : ℕ} → 0 ≡ transfer_number l t 1 to n → h ≡ holding l (slot t) 1 → n ≤ h
   had e f = let g = (transfer_free l t 1 to n e refl).1.1.1.0 in omega arith
 
-  -- y is the image after the transfer, which gave k; h the holding read there, o the one before, d what was to be left
-  module _ {y : List ℕ} {k : ℕ} (a : k ≡ transfer_number l t 1 to n) (b : k ≡ 0) (c : y ≡ transferred l t 1 to n) where
-    pub sent_is : y ≡ transfer_of l t 1 to n
-    sent_is = c ∙ transfer_done l t 1 to n (sym a ∙ b)
-
-    module _ {h o d : ℕ} (e : h ≡ holding y (slot t) 1) (f : o ≡ holding l (slot t) 1) (g : d ≡ o + bias - n) where
-      as_read : h ≡ held_after l t to n
-      as_read = e ∙ ap (λ (m : List ℕ). holding m (slot t) 1) sent_is
-
-      -- w is whether the holding read is another than what was to be left
-      pub compared : {w : Bool} → (w ≡ true → h ≡ d → ⊥) → (w ≡ false → h ≡ d) → pick w 13 0 ≡ pay_number l t to n
-      unfolding pay_number remaining_number
-      compared p q =
-          let r = as_read in
-          ends_at _ 1 _ (sym a ∙ b, tt) (only_where _ 13 (λ x y. p x (omega arith)) (λ x. let y = q x in omega arith))
+  -- y is the image after the transfer, which gave k
+  pub sent_is : {y : List ℕ} {k : ℕ} → k ≡ transfer_number l t 1 to n → k ≡ 0 → y ≡ transferred l t 1 to n → y ≡ transfer_of l t 1 to n
+  sent_is a b c = c ∙ transfer_done l t 1 to n (sym a ∙ b)
 
 -- ---- what payouts that refused owe, they owe of the answer that passes the refusal on
 pub passed_pays : {ps : List Payout} {t seq caller by : ℕ} {l e : List ℕ} {i : ℕ} {m v : List ℕ} (x : Refusal) (r : Result (Unit {0}) Refusal) → Refuses r x → number_of x ≡ payouts_number ps t seq l → Pays ps t seq caller by l e i (code r) m v

@@ -30,9 +30,12 @@ unfolding items
 items_addressed zero i r h = tt
 items_addressed (suc n) i r h = (h i (omega arith) (omega arith), items_addressed n (suc i) r (λ j p q. h j (omega arith) (omega arith)))
 
+pub items_in : (n : ℕ) (r : List ℕ) → ((j : ℕ) → j < n → item_address r j < 64) → Addressed (items n 0 r)
+items_in n r h = items_addressed n 0 r (λ j p q. h j (omega arith))
+
 pub batch_addressed : {r : List ℕ} → Formed 6 r → Addressed (items (item_count_of r) 0 r)
 unfolding reads_items member
-batch_addressed {r} f = items_addressed (item_count_of r) 0 r (λ j p q. item_in f refl j (omega arith))
+batch_addressed {r} f = items_in (item_count_of r) r (item_in f refl)
 
 -- ---- amounts
 pub item_free : (sum n : ℕ) {k : ℕ} → k ≡ item_number sum n → k ≡ 0 → AllFail (item_rules sum n)
@@ -92,6 +95,11 @@ checks_passed l t caller signers ps g a p e z =
     let i = shared_free l caller signers refl u.1.0 in
     let (low, high) = default_range l g i in
     rw p (record { begun = i; low = low; high = high; amounts = payable ps bias a u.1.1.1.0 })
+
+-- .. of the items of a record
+pub batch_passed : (l : List ℕ) (t caller signers n : ℕ) (r : List ℕ) {k : ℕ} → Good l → ((j : ℕ) → j < n → item_address r j < 64) → t ≡ default_token l → k ≡ withdraw_checks l caller signers (items n 0 r) → k ≡ 0
+    → Cleared l t (items n 0 r)
+batch_passed l t caller signers n r g a p e z = checks_passed l t caller signers (items n 0 r) g (items_in n r a) p e z
 
 -- the same of the token that the record names
 pub record ClearedToken (l : List ℕ) (t n : ℕ) : Type 0 where

@@ -10,7 +10,7 @@ use Rattle.payouts.specs.Payouts.{Payout, payouts_number, payouts_image, payouts
 
 -- what the payouts of token t have in common, of image l and the record's head
 abbrev pub withdrawal_of : List ℕ → Head → Token → Withdrawal
-withdrawal_of l h t = record { token = t; sequence = h.sequence; caller = h.caller; by_operator = not (eqb (owner l) h.caller) }
+withdrawal_of l h t = record { token = t; sequence = h.sequence; caller = h.caller; by_operator = not (eqb (owner l) h.caller.number) }
 
 -- the event buffer l with the events es in its places from i on
 unfoldable pub put_events : List ℕ → ℕ → List EventFields → List ℕ

@@ -1,5 +1,5 @@
 // Operations 5 `withdraw`, 6 `withdraw_batch` and 8 `withdraw_token` (lib.rs).
-#![tactic(auto, unfolding(fields::specs::Rules::chain, fields::specs::Rules::or_else, crate::specs::Payouts::withdraw_number, crate::specs::Payouts::withdraw_outcome, crate::specs::Token::withdraw_token_number, crate::specs::Token::withdraw_token_outcome), using(outcome::specs::Outcome::refused, crate::specs::Laws::checks_passed, crate::specs::Laws::token_checks_passed, crate::proofs::Whole::paid_out, crate::proofs::Whole::sent_keys))]
+#![tactic(auto, unfolding(fields::specs::Rules::chain, fields::specs::Rules::or_else, crate::specs::Payouts::withdraw_number, crate::specs::Payouts::withdraw_outcome, crate::specs::Token::withdraw_token_number, crate::specs::Token::withdraw_token_outcome), using(outcome::specs::Outcome::refused, crate::specs::Laws::checks_passed, crate::specs::Laws::batch_passed, crate::specs::Laws::token_checks_passed, crate::proofs::Whole::paid_out, crate::proofs::Whole::sent_keys))]
 
 ghost use Rattle.std.specs.Prelude.{OnOk, IfOk, ◌≡◌, [], ◌∷◌, ◌+◌, ◌-◌, ◌<◌, ◌≤◌};
 ghost use Rattle.refusal.specs.Numbers.{code};
@@ -19,15 +19,23 @@ use amount::Amount;
 use events::{Buffer, Event};
 use image::{Address, Image, Token};
 use outcome::{Answer, Done};
-use record::{Head, Item, Items};
+use record::{Head, Items};
 use refusal::Refusal;
+
+// A payout that the checks have passed: to whom, and how much.
+#[derive(Clone, Copy)]
+struct Payout {
+    to: Address,
+    amount: Amount,
+    ghost not_negative: { bias ≤ biased amount },
+}
 
 // What the payouts of one call have in common.
 #[derive(Clone, Copy)]
 struct Withdrawal {
     token: Token,
     sequence: u32,
-    caller: u8,
+    caller: Address,
     by_operator: bool,
 }
 
@@ -39,20 +47,100 @@ impl Withdrawal {
             token,
             sequence: head.sequence,
             caller: head.caller,
-            by_operator: fields::get8(img, image::OWNER) != head.caller,
+            by_operator: fields::get8(img, image::OWNER) != head.caller.number,
         }
     }
 
-    fn event(self, item: Item, held: Amount) -> Event
-        ensures { fields_of result ≡ withdrawn_event self.caller item.address (biased item.amount) (biased held) (num self.by_operator) }
+    fn event(self, due: Payout, held: Amount) -> Event
+        ensures { fields_of result ≡ withdrawn_event self.caller.number due.to.number (biased due.amount) (biased held) (num self.by_operator) }
     {
         Event::Withdrawn {
-            caller: self.caller,
-            to: item.address,
-            amount: item.amount,
+            caller: self.caller.number,
+            to: due.to.number,
+            amount: due.amount,
             new_balance: held,
             by_operator: self.by_operator,
         }
+    }
+
+    // 23; 13.
+    #[tactic(auto, unfolding(fields::specs::Rules::chain, fields::specs::Rules::or_else, fields::specs::Rules::verdict, crate::specs::Payouts::remaining_number, crate::specs::Payouts::pay_number), using(crate::proofs::Steps::had, crate::proofs::Steps::sent_is, refusal::specs::Laws::on_ok, amount::specs::Order::ne_true, amount::specs::Order::ne_false))]
+    fn send(self, img: &mut Image, due: Payout) -> Result<(), Refusal>
+        requires { Good img.old }
+        ensures value { code result ≡ pay_number img.old self.token.address due.to.number (biased due.amount) }
+        ensures img_after { OnOk result (img.new ≡ transfer_of img.old self.token.address 1 due.to.number (biased due.amount)) }
+    {
+        let held = token::balance(img, self.token, token::VAULT);
+        token::transfer(
+            img,
+            usize::from(self.token.address),
+            token::VAULT,
+            due.to,
+            due.amount,
+        )?;
+        refusal::refuse_if(
+            token::balance(img, self.token, token::VAULT) != held - due.amount,
+            Refusal::WithdrawTransferFailed,
+        )
+    }
+
+    // One payout, its event in place i.
+    fn pay(self, img: &mut Image, due: Payout, i: usize, events: &mut Buffer) -> Result<(), Refusal>
+        requires { Good img.old × (i < 16) }
+        ensures { Pays (payout due.to.number (biased due.amount) ∷ []) self.token.address self.sequence self.caller.number (num self.by_operator) img.old events.old i (code result) img.new events.new }
+    {
+        self.send(img, due)?;
+        let held = token::balance(img, self.token, token::VAULT);
+        storage::record_vault_balance(img, self.token, self.sequence, held);
+        events::put_event(events, i, self.event(due, held));
+        Ok(())
+    }
+
+    // Payout by payout, each item's event in its place.
+    fn pay_items(
+        self,
+        img: &mut Image,
+        listed: Items<'_>,
+        events: &mut Buffer,
+    ) -> Result<(), Refusal>
+        requires { Good img.old × (initialised img.old ≡ 1) × Payable (items listed.count 0 listed.rec.now) }
+        ensures { Pays (items listed.entry.count 0 listed.entry.rec.now) self.token.address self.sequence self.caller.number (num self.by_operator) img.old events.old 0 (code result) img.new events.new }
+    {
+        for i in 0..usize::from(listed.count) {
+            let item = listed.get(i);
+            let due = Payout {
+                to: item.address,
+                amount: item.amount,
+            };
+            self.pay(img, due, i, events)?;
+        }
+        Ok(())
+    }
+
+    // The caller's credit is lowered only where it covers the amount.
+    #[tactic(auto, using(crate::proofs::Steps::credit_lowered, crate::proofs::Steps::credit_kept, amount::specs::Order::lt_true, amount::specs::Order::lt_false))]
+    fn take_credit(self, img: &mut Image, due: Payout)
+        requires { Keys img.old }
+        ensures { img.new ≡ take_credit img.old self.token.address self.caller.number (biased due.amount) }
+    {
+        let credit = storage::get_token_account_balance(img, self.token, self.caller);
+        if credit < due.amount {
+            return;
+        }
+        let left = credit - due.amount;
+        storage::set_token_account_balance(img, self.token, self.caller, left);
+    }
+
+    // What follows the transfer: credit, snapshot and event.
+    fn settle(self, img: &mut Image, due: Payout, events: &mut Buffer)
+        requires { Keys img.old }
+        ensures img_after { img.new ≡ record_balance (take_credit img.old self.token.address self.caller.number (biased due.amount)) self.token.address self.sequence (holding img.old (slot self.token.address) 1) }
+        ensures events_after { events.new ≡ event_buffer (withdrawn_event self.caller.number due.to.number (biased due.amount) (holding img.old (slot self.token.address) 1) (num self.by_operator) ∷ []) }
+    {
+        let held = token::balance(img, self.token, token::VAULT);
+        self.take_credit(img, due);
+        storage::record_vault_balance(img, self.token, self.sequence, held);
+        events::write_one(events, self.event(due, held));
     }
 }
 
@@ -66,7 +154,8 @@ fn add_item(sum: Amount, n: Amount) -> Result<Amount, Refusal>
     sum.checked_add(n).ok_or(Refusal::ArithmeticOverflow)
 }
 
-// Item by item 4, 7.
+// Item by item 4, 7. The one of `batch_deposits` tests an item by other rules, and its sum cannot pass 2 ^ 127 - 1.
+#[tactic(auto, using(amount::specs::Order::biased_zero, crate::proofs::Loops::sum_begins, crate::proofs::Loops::sum_ends))]
 fn add_items(listed: Items<'_>) -> Result<Amount, Refusal>
     ensures number { code result ≡ items_number (items listed.entry.count 0 listed.entry.rec.now) bias }
     ensures total { IfOk result (λ t. biased t ≡ items_sum (items listed.entry.count 0 listed.entry.rec.now) bias) }
@@ -78,67 +167,15 @@ fn add_items(listed: Items<'_>) -> Result<Amount, Refusal>
     Ok(sum)
 }
 
-// 23; 13.
-#[tactic(auto, unfolding(fields::specs::Rules::chain, fields::specs::Rules::or_else, crate::specs::Payouts::pay_number), using(crate::proofs::Steps::had, crate::proofs::Steps::sent_is, refusal::specs::Laws::on_ok))]
-fn send(img: &mut Image, token: Token, to: Address, n: Amount) -> Result<(), Refusal>
-    requires { Good img.old × (bias ≤ biased n) }
-    ensures value { code result ≡ pay_number img.old token.address to.number (biased n) }
-    ensures img_after { OnOk result (img.new ≡ transfer_of img.old token.address 1 to.number (biased n)) }
-{
-    let held = token::balance(img, token, token::VAULT);
-    token::transfer(img, token.address, token::VAULT, to, n)?;
-    refusal::refuse_if(
-        token::balance(img, token, token::VAULT) != held - n,
-        Refusal::WithdrawTransferFailed,
-    )
-}
-
-// One payout, its event in place i.
-fn pay(
-    img: &mut Image,
-    paid: Withdrawal,
-    item: Item,
-    i: usize,
-    events: &mut Buffer,
-) -> Result<(), Refusal>
-    requires { Good img.old × (i < 16) × (item.address < 64) × (bias ≤ biased item.amount) }
-    ensures { Pays (payout item.address (biased item.amount) ∷ []) paid.token.address paid.sequence paid.caller (num paid.by_operator) img.old events.old i (code result) img.new events.new }
-{
-    let to = Address {
-        number: item.address,
-    };
-    send(img, paid.token, to, item.amount)?;
-    let held = token::balance(img, paid.token, token::VAULT);
-    storage::record_vault_balance(img, paid.token, paid.sequence, held);
-    events::put_event(events, i, paid.event(item, held));
-    Ok(())
-}
-
-// Payout by payout, each item's event in its place.
-fn pay_items(
-    img: &mut Image,
-    listed: Items<'_>,
-    paid: Withdrawal,
-    events: &mut Buffer,
-) -> Result<(), Refusal>
-    requires { Good img.old × (initialised img.old ≡ 1) × Payable (items listed.count 0 listed.rec.now) }
-    ensures { Pays (items listed.entry.count 0 listed.entry.rec.now) paid.token.address paid.sequence paid.caller (num paid.by_operator) img.old events.old 0 (code result) img.new events.new }
-{
-    for i in 0..usize::from(listed.count) {
-        pay(img, paid, listed.get(i), i, events)?;
-    }
-    Ok(())
-}
-
 // 8; 1, 3, 22; 4; 6; 6.
 #[tactic(auto, unfolding(fields::specs::Rules::chain, fields::specs::Rules::or_else), using(crate::proofs::Steps::one_checks, checks::specs::Passed::gate_refused, checks::specs::Passed::gate_passed, checks::specs::Passed::gate_free))]
 fn withdraw_checks(img: &Image, head: Head) -> Result<(), Refusal>
     requires { Good img.now }
-    ensures { code result ≡ withdraw_checks img.now head.caller head.signers (payout head.other (biased head.amount) ∷ []) }
+    ensures { code result ≡ withdraw_checks img.now head.caller.number head.signers (payout head.other.number (biased head.amount) ∷ []) }
 {
-    checks::open_gate(img, head.caller, head.signers)?;
+    checks::open_gate(img, head.caller.number, head.signers)?;
     checks::amount_check(head.amount)?;
-    checks::cap_check(img, head.caller, head.amount)?;
+    checks::cap_check(img, head.caller.number, head.amount)?;
     checks::funds_check(token::vault_balance(img), head.amount)
 }
 
@@ -146,12 +183,12 @@ fn withdraw_checks(img: &Image, head: Head) -> Result<(), Refusal>
 #[tactic(auto, unfolding(fields::specs::Rules::chain, fields::specs::Rules::or_else, fields::specs::Rules::verdict), using(crate::proofs::Steps::item_checks, checks::specs::Passed::gate_refused, checks::specs::Passed::gate_passed, checks::specs::Passed::gate_free))]
 fn batch_checks(img: &Image, listed: Items<'_>, head: Head) -> Result<(), Refusal>
     requires { Good img.now }
-    ensures { code result ≡ withdraw_checks img.now head.caller head.signers (items listed.entry.count 0 listed.entry.rec.now) }
+    ensures { code result ≡ withdraw_checks img.now head.caller.number head.signers (items listed.entry.count 0 listed.entry.rec.now) }
 {
-    checks::open_gate(img, head.caller, head.signers)?;
+    checks::open_gate(img, head.caller.number, head.signers)?;
     refusal::refuse_if(listed.count == 0, Refusal::InvalidAmount)?;
     let sum = add_items(listed)?;
-    checks::cap_check(img, head.caller, sum)?;
+    checks::cap_check(img, head.caller.number, sum)?;
     checks::funds_check(token::vault_balance(img), sum)
 }
 
@@ -167,93 +204,61 @@ fn credit_check(img: &Image, token: Token, caller: Address, n: Amount) -> Result
     refusal::refuse_if(credit < n, Refusal::LimitExceeded)
 }
 
-// A credit is lowered only where it covers the amount.
-#[tactic(auto, using(crate::proofs::Steps::credit_lowered, crate::proofs::Steps::credit_kept, amount::specs::Order::lt_true, amount::specs::Order::lt_false))]
-fn take_credit(img: &mut Image, token: Token, account: Address, n: Amount)
-    requires { Keys img.old × (bias ≤ biased n) }
-    ensures { img.new ≡ take_credit img.old token.address account.number (biased n) }
-{
-    let credit = storage::get_token_account_balance(img, token, account);
-    if credit < n {
-        return;
-    }
-    storage::set_token_account_balance(img, token, account, credit - n);
-}
-
-// What follows the transfer: credit, snapshot and event.
-fn settle(img: &mut Image, paid: Withdrawal, item: Item, events: &mut Buffer)
-    requires { Keys img.old × (paid.caller < 64) × (bias ≤ biased item.amount) }
-    ensures img_after { img.new ≡ record_balance (take_credit img.old paid.token.address paid.caller (biased item.amount)) paid.token.address paid.sequence (holding img.old (slot paid.token.address) 1) }
-    ensures events_after { events.new ≡ put_event events.old 0 (withdrawn_event paid.caller item.address (biased item.amount) (holding img.old (slot paid.token.address) 1) (num paid.by_operator)) }
-{
-    let held = token::balance(img, paid.token, token::VAULT);
-    let account = Address {
-        number: paid.caller,
-    };
-    take_credit(img, paid.token, account, item.amount);
-    storage::record_vault_balance(img, paid.token, paid.sequence, held);
-    events::put_event(events, 0, paid.event(item, held));
-}
-
 // 8; 1, 3, 22; 4; 6; 23; 6; 6.
 #[tactic(auto, unfolding(fields::specs::Rules::chain, fields::specs::Rules::or_else, crate::specs::Token::withdraw_token_checks), using(checks::specs::Passed::gate_refused, checks::specs::Passed::gate_passed))]
 fn withdraw_token_checks(img: &Image, head: Head) -> Result<Token, Refusal>
-    requires { head.caller < 64 }
-    ensures number { code result ≡ withdraw_token_checks img.now head.token head.caller head.signers (biased head.amount) }
-    ensures token { IfOk result (λ token. token.address ≡ head.token) }
+    ensures number { code result ≡ withdraw_token_checks img.now head.token.number head.caller.number head.signers (biased head.amount) }
+    ensures token { IfOk result (λ token. token.address ≡ head.token.number) }
 {
-    checks::open_gate(img, head.caller, head.signers)?;
+    checks::open_gate(img, head.caller.number, head.signers)?;
     checks::amount_check(head.amount)?;
-    checks::cap_check(img, head.caller, head.amount)?;
-    let token = token::presence_check(img, head.token)?;
+    checks::cap_check(img, head.caller.number, head.amount)?;
+    let token = token::presence_check(img, usize::from(head.token.number))?;
     checks::funds_check(token::balance(img, token, token::VAULT), head.amount)?;
-    let caller = Address {
-        number: head.caller,
-    };
-    credit_check(img, token, caller, head.amount)?;
+    credit_check(img, token, head.caller, head.amount)?;
     Ok(token)
 }
 
 // Operation 5.
 pub fn withdraw(img: &mut Image, head: Head, events: &mut Buffer) -> Answer
-    requires { Good img.old × (head.other < 64) × (events.old ≡ event_buffer []) }
-    ensures { Does (withdraw_outcome img.old head.caller head.signers head.sequence (payout head.other (biased head.amount) ∷ [])) result img.new events.new }
+    requires { Good img.old }
+    ensures { Does (withdraw_outcome img.old head.caller.number head.signers head.sequence (payout head.other.number (biased head.amount) ∷ [])) result img.new events.new }
 {
     withdraw_checks(img, head)?;
     let paid = Withdrawal::new(img, head, token::default_token(img));
-    let item = Item {
-        address: head.other,
+    let due = Payout {
+        to: head.other,
         amount: head.amount,
     };
-    pay(img, paid, item, 0, events)?;
+    events::clear_events(events);
+    paid.pay(img, due, 0, events)?;
     Ok(Done::new(1))
 }
 
 // Operation 6.
 pub fn withdraw_batch(img: &mut Image, listed: Items<'_>, head: Head, events: &mut Buffer) -> Answer
-    requires good { Good img.old × (events.old ≡ event_buffer []) }
-    requires addressed { Addressed (items listed.count 0 listed.rec.now) }
-    ensures { Does (withdraw_outcome img.old head.caller head.signers head.sequence (items listed.entry.count 0 listed.entry.rec.now)) result img.new events.new }
+    requires { Good img.old }
+    ensures { Does (withdraw_outcome img.old head.caller.number head.signers head.sequence (items listed.entry.count 0 listed.entry.rec.now)) result img.new events.new }
 {
     batch_checks(img, listed, head)?;
     let paid = Withdrawal::new(img, head, token::default_token(img));
-    pay_items(img, listed, paid, events)?;
+    events::clear_events(events);
+    paid.pay_items(img, listed, events)?;
     Ok(Done::new(listed.count))
 }
 
 // Operation 8.
 pub fn withdraw_token(img: &mut Image, head: Head, events: &mut Buffer) -> Answer
-    requires { Good img.old × (head.caller < 64) × (head.other < 64) × (events.old ≡ event_buffer []) }
-    ensures { Does (withdraw_token_outcome img.old head.token head.caller head.signers head.sequence head.other (biased head.amount)) result img.new events.new }
+    requires { Good img.old }
+    ensures { Does (withdraw_token_outcome img.old head.token.number head.caller.number head.signers head.sequence head.other.number (biased head.amount)) result img.new events.new }
 {
     let token = withdraw_token_checks(img, head)?;
     let paid = Withdrawal::new(img, head, token);
-    let to = Address { number: head.other };
-    send(img, token, to, head.amount)?;
-    let item = Item {
-        address: head.other,
+    let due = Payout {
+        to: head.other,
         amount: head.amount,
     };
-    settle(img, paid, item, events);
+    paid.send(img, due)?;
+    paid.settle(img, due, events);
     Ok(Done::new(1))
 }

@@ -14,9 +14,9 @@ use Rattle.record.specs.Laws.{caller_below, token_below, other_below, flag_below
 
 pub record HeadOf (r : List ℕ) (h : Head) : Type 0 where
   pub operation : operation_number h.operation ≡ operation_of r
-  pub caller : h.caller ≡ caller_of r
-  pub token : h.token ≡ token_of r
-  pub other : h.other ≡ other_of r
+  pub caller : caller_of r < 64 → h.caller.number ≡ caller_of r
+  pub token : token_of r < 64 → h.token.number ≡ token_of r
+  pub other : other_of r < 64 → h.other.number ≡ other_of r
   pub flag : h.flag ≡ eqb (flag_of r) 1
   pub item_count : h.item_count ≡ item_count_of r
   pub timestamp : h.timestamp ≡ timestamp_of r
@@ -57,14 +57,14 @@ module _ (r : List ℕ) (h : Head) (o : Operation) (z : form_number r ≡ 0) (f 
   pub head_operation : operation_of r ≡ operation_number o
   head_operation = sym f.operation ∙ ap operation_number e
 
-  pub head_caller : reads_caller (operation_number o) ≡ true → h.caller < 64
-  head_caller t = rw f.caller (caller_below r (operation_number o) z head_operation t)
+  pub head_caller : reads_caller (operation_number o) ≡ true → h.caller.number ≡ caller_of r
+  head_caller t = f.caller (caller_below r (operation_number o) z head_operation t)
 
-  pub head_token : reads_token (operation_number o) ≡ true → h.token < 64
-  head_token t = rw f.token (token_below r (operation_number o) z head_operation t)
+  pub head_token : reads_token (operation_number o) ≡ true → h.token.number ≡ token_of r
+  head_token t = f.token (token_below r (operation_number o) z head_operation t)
 
-  pub head_other : reads_other (operation_number o) ≡ true → h.other < 64
-  head_other t = rw f.other (other_below r (operation_number o) z head_operation t)
+  pub head_other : reads_other (operation_number o) ≡ true → h.other.number ≡ other_of r
+  head_other t = f.other (other_below r (operation_number o) z head_operation t)
 
   pub head_flag : reads_flag (operation_number o) ≡ true → num h.flag ≡ flag_of r
   head_flag t = rw f.flag (num_eqb (flag_of r) (flag_below r (operation_number o) z head_operation t))

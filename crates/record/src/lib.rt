@@ -1,7 +1,7 @@
 // The record of a call, 448 bytes: its head as a struct, its items, and refusal 32.
 #![tactic(auto)]
 
-ghost use Rattle.std.specs.Prelude.{◌≡◌, ◌<◌, ◌≤◌, ltb, true, IfOk};
+ghost use Rattle.std.specs.Prelude.{◌≡◌, ℕ, ◌<◌, ◌≤◌, ltb, true, IfOk};
 ghost use Rattle.fields.specs.Logic.{◌and◌};
 ghost use Rattle.refusal.specs.Numbers.{code};
 ghost use Rattle.amount.specs.Biased.{biased};
@@ -13,6 +13,7 @@ ghost use Rattle.record.specs.Head.{HeadOf};
 mod operation;
 
 use amount::Amount;
+use image::Address;
 pub use operation::{Operation, View};
 use refusal::Refusal;
 
@@ -36,13 +37,13 @@ const ITEMS: usize = 64;
 
 const ITEM_LENGTH: usize = 24;
 
-// The fields before the items. An operation that reads a time to live finds it where others have the amount.
+// The fields before the items. An operation that reads a time to live finds it where others have the amount. Where a byte is no address, an operation that reads it is refused with 32, and of others the address is 0.
 #[derive(Clone, Copy, Debug, PartialEq, Eq)]
 pub struct Head {
     pub operation: Operation,
-    pub caller: u8,
-    pub token: u8,
-    pub other: u8,
+    pub caller: Address,
+    pub token: Address,
+    pub other: Address,
     pub flag: bool,
     pub item_count: u8,
     pub timestamp: u64,
@@ -56,7 +57,7 @@ pub struct Head {
 // An item: an address, and the amount that is moved from or to it.
 #[derive(Clone, Copy, Debug, PartialEq, Eq)]
 pub struct Item {
-    pub address: u8,
+    pub address: Address,
     pub amount: Amount,
 }
 
@@ -66,33 +67,45 @@ pub struct Items<'a> {
     pub rec: &'a Record,
     pub count: u8,
     pub ghost fit: { count ≤ 16 },
+    pub ghost addressed: { (j : ℕ) → j < count → item_address rec.now j < 64 },
 }
 
 impl Items<'_> {
-    #[tactic(auto, using(crate::proofs::Bytes::byte_read))]
     pub fn get(self, i: usize) -> Item
         requires { i < self.count }
-        ensures { (result.address ≡ item_address self.entry.rec.now i) × (biased result.amount ≡ item_amount self.entry.rec.now i) }
+        ensures { (result.address.number ≡ item_address self.entry.rec.now i) × (biased result.amount ≡ item_amount self.entry.rec.now i) }
     {
-        let rec = self.rec;
-        let at = ITEMS + ITEM_LENGTH * i;
         Item {
-            address: rec[at],
-            amount: amount::read_amount(rec, at + 8),
+            address: Address {
+                number: item_address(self.rec, i),
+            },
+            amount: item_amount(self.rec, i),
         }
     }
+}
 
-    // Whether the address of each is one.
-    fn within(self) -> bool
-        ensures { result ≡ items_within self.entry.rec.now self.entry.count }
-    {
-        for i in 0..usize::from(self.count) {
-            if self.get(i).address > 63 {
-                return false;
-            }
-        }
-        true
-    }
+// The byte at the address of an item, also of a record that is not of good form.
+#[tactic(auto, using(crate::proofs::Bytes::byte_read))]
+pub fn item_address(rec: &Record, i: usize) -> u8
+    requires { i < 16 }
+    ensures { result ≡ item_address rec.now i }
+{
+    rec[ITEMS + ITEM_LENGTH * i]
+}
+
+pub fn item_amount(rec: &Record, i: usize) -> Amount
+    requires { i < 16 }
+    ensures { biased result ≡ item_amount rec.now i }
+{
+    amount::read_amount(rec, ITEMS + ITEM_LENGTH * i + 8)
+}
+
+// Whether the bytes at the addresses of the first items are addresses.
+fn items_within(rec: &Record, count: u8) -> bool
+    requires { count ≤ 16 }
+    ensures { result ≡ items_within rec.now count }
+{
+    (0..usize::from(count)).all(|i| item_address(rec, i) < 64)
 }
 
 // A record of good form, and its head.
@@ -106,7 +119,7 @@ pub struct Parsed<'a> {
 
 impl<'a> Parsed<'a> {
     // The items that the head counts.
-    #[tactic(auto, using(crate::specs::Head::head_count))]
+    #[tactic(auto, using(crate::specs::Head::head_count, crate::specs::Head::head_item))]
     pub fn items(self) -> Items<'a>
         requires { reads_items (operation_number self.head.operation) ≡ true }
         ensures { (result.rec.now ≡ self.entry.rec.now) × (result.count ≡ self.entry.head.item_count) }
@@ -127,6 +140,7 @@ struct Reading<'a> {
 }
 
 impl Reading<'_> {
+    #[tactic(auto, unfolding(crate::specs::Form::head_exceeds), using(fields::specs::Logic::or_is, fields::specs::Logic::or_assoc, crate::proofs::Bytes::byte_read))]
     fn head_exceeds(self) -> bool
         ensures { result ≡ head_exceeds self.entry.rec.now }
     {
@@ -137,12 +151,13 @@ impl Reading<'_> {
         a | b | c | d
     }
 
+    #[tactic(auto, unfolding(crate::specs::Form::items_exceed), using(crate::proofs::ItemRule::unread, crate::proofs::ItemRule::many, crate::proofs::ItemRule::few, crate::proofs::Bytes::byte_read))]
     fn items_exceed(self) -> bool
         ensures { result ≡ items_exceed self.entry.rec.now }
     {
         let rec = self.rec;
         let count = rec[ITEM_COUNT];
-        self.operation.reads_items() && (count > 16 || !Items { rec, count }.within())
+        self.operation.reads_items() && (count > 16 || !items_within(rec, count))
     }
 
     #[tactic(auto, using(crate::proofs::Bytes::byte_read))]
@@ -152,9 +167,9 @@ impl Reading<'_> {
         let rec = self.rec;
         Head {
             operation: self.operation,
-            caller: rec[CALLER],
-            token: rec[TOKEN],
-            other: rec[OTHER],
+            caller: address(rec[CALLER]),
+            token: address(rec[TOKEN]),
+            other: address(rec[OTHER]),
             flag: rec[FLAG] == 1,
             item_count: rec[ITEM_COUNT],
             timestamp: fields::get64(rec, 8),
@@ -167,7 +182,14 @@ impl Reading<'_> {
     }
 }
 
+fn address(byte: u8) -> Address
+    ensures { byte < 64 → result.number ≡ byte }
+{
+    Address::new(byte).unwrap_or(Address { number: 0 })
+}
+
 // Whether a field holds more than the most that it may, where it is read.
+#[tactic(auto, using(fields::specs::Logic::true_and, fields::specs::Logic::false_and))]
 fn exceeds(read: bool, value: u8, most: u8) -> bool
     ensures { result ≡ read and ltb most value }
 {
@@ -175,6 +197,7 @@ fn exceeds(read: bool, value: u8, most: u8) -> bool
 }
 
 // A record of good form, and 32 of any other bytes.
+#[tactic(auto, using(crate::proofs::Form::other_length, crate::proofs::Decoded::decoded))]
 pub fn parse(rec: &[u8]) -> Result<Parsed<'_>, Refusal>
     ensures number { code result ≡ form_number rec.now }
     ensures parsed { IfOk result (λ parsed. parsed.rec.now ≡ rec.now) }

@@ -45,13 +45,13 @@ pub enum Operation {
     Freeze,
 }
 
-// The one place where a number of the format becomes an operation.
+// The one place where a number of the format becomes an operation: no cast does, also where variants stand beside their numbers.
 impl TryFrom<u8> for Operation {
     type Error = Refusal;
 
     ghost try_from_gives = { λ n r. r ≡ ok_or (operation_at n) InvalidRecord };
 
-    #[tactic(auto, unfolding(crate::specs::Numbers::operation_at))]
+    #[tactic(auto, unfolding(crate::specs::Numbers::operation_at), using(crate::specs::Numbers::no_operation_at))]
     fn try_from(number: u8) -> Result<Operation, Refusal> {
         match number {
             1 => Ok(Operation::Initialize),

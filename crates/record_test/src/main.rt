@@ -1,8 +1,10 @@
 // Refusal 32: lengths, operations, the bounds of each field, and the fields that each operation reads; then the fields of one record.
 #![tactic(auto)]
 
+ghost use Rattle.std.specs.Prelude.{◌<◌};
+
 use amount::Amount;
-use record::{Head, Items, Operation, Record};
+use record::{Head, Operation, Record};
 use std::fmt::Display;
 use std::io;
 
@@ -100,7 +102,7 @@ fn rows(rt: &impl Print, rec: &mut Record) -> io::Result<()> {
 fn small_fields(rt: &impl Print, rec: &Record, head: Head) -> io::Result<()> {
     print!(rt;
         "{} {} {} {} {} ",
-        rec[0], head.caller, head.token, head.other, rec[4]
+        rec[0], head.caller.number, head.token.number, head.other.number, rec[4]
     )?;
     print!(rt; "{} {} {} ", head.item_count, head.timestamp, head.sequence)?;
     println!(rt; "{} {} ", head.signers, head.time_to_live)
@@ -111,14 +113,22 @@ fn low(a: Amount) -> i128 {
     a.0 & i128::from(u64::MAX)
 }
 
+fn item(rt: &impl Print, rec: &Record, i: usize) -> io::Result<()>
+    requires { i < 16 }
+{
+    print!(rt;
+        "{} {} ",
+        record::item_address(rec, i),
+        low(record::item_amount(rec, i))
+    )
+}
+
 // The amounts of the head, and the first and the last item.
 fn amounts(rt: &impl Print, rec: &Record, head: Head) -> io::Result<()> {
-    let items = Items { rec, count: 16 };
-    let first = items.get(0);
-    let last = items.get(15);
     print!(rt; "{} {} ", low(head.amount), low(head.fee))?;
-    print!(rt; "{} {} ", first.address, low(first.amount))?;
-    println!(rt; "{} {} ", last.address, low(last.amount))
+    item(rt, rec, 0)?;
+    item(rt, rec, 15)?;
+    println!(rt)
 }
 
 // The fields, read as those of operation 24, which asks nothing of most of them.

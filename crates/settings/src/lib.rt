@@ -1,29 +1,28 @@
 // Operations 10 to 14, 18 and 19: limits, operator and pause (lib.rs).
 #![tactic(auto, unfolding(fields::specs::Rules::chain, fields::specs::Rules::or_else, fields::specs::Rules::verdict, crate::specs::Settings::operator_limit_number, crate::specs::Settings::operator_limit_outcome, crate::specs::Settings::below_holding_number, crate::specs::Settings::limit_role_number, crate::specs::Settings::limit_set_number, crate::specs::Settings::limit_set_outcome, crate::specs::Settings::token_max_limit_number, crate::specs::Settings::token_max_limit_outcome, crate::specs::Settings::operator_set_outcome, crate::specs::Settings::operator_revoked_outcome, crate::specs::Settings::already_paused_number, crate::specs::Settings::pause_number, crate::specs::Settings::pause_outcome, crate::specs::Settings::not_paused_number, crate::specs::Settings::unpause_number, crate::specs::Settings::unpause_outcome), using(outcome::specs::Outcome::refused, outcome::specs::Outcome::announced, outcome::specs::Outcome::accepted, checks::specs::Passed::gate_refused, checks::specs::Passed::gate_passed))]
 
-ghost use Rattle.std.specs.Prelude.{◌≡◌, [], ◌<◌};
+ghost use Rattle.std.specs.Prelude.{◌≡◌};
 ghost use Rattle.refusal.specs.Numbers.{code};
 ghost use Rattle.amount.specs.Biased.{biased};
 ghost use Rattle.image.specs.Layout.{initialised};
 ghost use Rattle.storage.specs.Facts.{Good};
-ghost use Rattle.events.specs.Event.{event_buffer};
 ghost use Rattle.outcome.specs.Outcome.{Does};
 ghost use Rattle.settings.specs.Settings.{operator_limit_outcome, below_holding_number, limit_role_number, limit_set_number, limit_set_outcome, token_max_limit_outcome, operator_set_outcome, operator_revoked_outcome, pause_outcome, unpause_outcome};
 
 use amount::Amount;
 use events::{Buffer, Event};
-use image::{Address, Flag, Image};
-use outcome::{Answer, Done};
+use image::{Flag, Image};
+use outcome::Answer;
 use record::Head;
 use refusal::Refusal;
 
 // 8; 1, 3, 22; 4.
 pub fn set_operator_withdraw_limit(img: &mut Image, head: Head, events: &mut Buffer) -> Answer
-    requires { Good img.old × (events.old ≡ event_buffer []) }
-    ensures { Does (operator_limit_outcome img.old head.caller head.signers (biased head.amount)) result img.new events.new }
+    requires { Good img.old }
+    ensures { Does (operator_limit_outcome img.old head.caller.number head.signers (biased head.amount)) result img.new events.new }
 {
     checks::paused_check(img)?;
-    checks::owner_gate(img, head.caller, head.signers)?;
+    checks::owner_gate(img, head.caller.number, head.signers)?;
     checks::amount_check(head.amount)?;
     let old = amount::read_amount(img, image::OPERATOR_LIMIT);
     storage::set_flag(img, Flag::OperatorLimit);
@@ -31,7 +30,7 @@ pub fn set_operator_withdraw_limit(img: &mut Image, head: Head, events: &mut Buf
     Ok(outcome::announce(
         events,
         Event::OperatorWithdrawLimitSet {
-            caller: head.caller,
+            caller: head.caller.number,
             old_limit: old,
             new_limit: head.amount,
         },
@@ -63,19 +62,19 @@ fn limit_role_check(img: &Image, caller: u8, n: Amount) -> Result<(), Refusal>
 #[tactic(auto, unfolding(fields::specs::Rules::chain, fields::specs::Rules::or_else, crate::specs::Settings::limit_set_number), using(checks::specs::Passed::initialised_free))]
 fn limit_check(img: &Image, head: Head) -> Result<(), Refusal>
     requires { Good img.now }
-    ensures { code result ≡ limit_set_number img.now head.caller head.signers (biased head.amount) }
+    ensures { code result ≡ limit_set_number img.now head.caller.number head.signers (biased head.amount) }
 {
     checks::paused_check(img)?;
     checks::initialised_check(img)?;
     checks::amount_check(head.amount)?;
     below_holding_check(img, head.amount)?;
-    limit_role_check(img, head.caller, head.amount)?;
-    checks::signed_check(head.signers, head.caller)
+    limit_role_check(img, head.caller.number, head.amount)?;
+    checks::signed_check(head.signers, head.caller.number)
 }
 
 pub fn set_limit(img: &mut Image, head: Head, events: &mut Buffer) -> Answer
-    requires { Good img.old × (events.old ≡ event_buffer []) }
-    ensures { Does (limit_set_outcome img.old head.caller head.signers (biased head.amount)) result img.new events.new }
+    requires { Good img.old }
+    ensures { Does (limit_set_outcome img.old head.caller.number head.signers (biased head.amount)) result img.new events.new }
 {
     limit_check(img, head)?;
     let old = amount::read_amount(img, image::VAULT_LIMIT);
@@ -83,7 +82,7 @@ pub fn set_limit(img: &mut Image, head: Head, events: &mut Buffer) -> Answer
     Ok(outcome::announce(
         events,
         Event::LimitSet {
-            caller: head.caller,
+            caller: head.caller.number,
             old_limit: old,
             new_limit: head.amount,
         },
@@ -92,59 +91,58 @@ pub fn set_limit(img: &mut Image, head: Head, events: &mut Buffer) -> Answer
 
 // 8; 1, 3, 22; 4.
 pub fn set_token_max_limit(img: &mut Image, head: Head, events: &mut Buffer) -> Answer
-    requires { Good img.old × (head.token < 64) × (events.old ≡ event_buffer []) }
-    ensures { Does (token_max_limit_outcome img.old head.caller head.token head.signers (biased head.amount)) result img.new events.new }
+    requires { Good img.old }
+    ensures { Does (token_max_limit_outcome img.old head.caller.number head.token.number head.signers (biased head.amount)) result img.new events.new }
 {
-    checks::open_gate(img, head.caller, head.signers)?;
+    checks::open_gate(img, head.caller.number, head.signers)?;
     checks::amount_check(head.amount)?;
-    let address = Address { number: head.token };
-    storage::set_token_max_limit(img, address, head.amount);
-    Ok(Done::new(0))
+    storage::set_token_max_limit(img, head.token, head.amount);
+    Ok(outcome::announce_nothing(events))
 }
 
 pub fn set_operator(img: &mut Image, head: Head, events: &mut Buffer) -> Answer
-    requires { Good img.old × (events.old ≡ event_buffer []) }
-    ensures { Does (operator_set_outcome img.old head.caller head.signers head.other) result img.new events.new }
+    requires { Good img.old }
+    ensures { Does (operator_set_outcome img.old head.caller.number head.signers head.other.number) result img.new events.new }
 {
-    checks::owner_gate(img, head.caller, head.signers)?;
+    checks::owner_gate(img, head.caller.number, head.signers)?;
     storage::set_flag(img, Flag::Operator);
-    fields::put8(img, image::OPERATOR, head.other);
+    fields::put8(img, image::OPERATOR, head.other.number);
     Ok(outcome::announce(
         events,
         Event::OperatorSet {
-            caller: head.caller,
-            operator: head.other,
+            caller: head.caller.number,
+            operator: head.other.number,
         },
     ))
 }
 
 pub fn revoke_operator(img: &mut Image, head: Head, events: &mut Buffer) -> Answer
-    requires { Good img.old × (events.old ≡ event_buffer []) }
-    ensures { Does (operator_revoked_outcome img.old head.caller head.signers) result img.new events.new }
+    requires { Good img.old }
+    ensures { Does (operator_revoked_outcome img.old head.caller.number head.signers) result img.new events.new }
 {
-    checks::owner_gate(img, head.caller, head.signers)?;
+    checks::owner_gate(img, head.caller.number, head.signers)?;
     storage::clear_flag(img, Flag::Operator);
     fields::put8(img, image::OPERATOR, 0);
     Ok(outcome::announce(
         events,
         Event::OperatorRevoked {
-            caller: head.caller,
+            caller: head.caller.number,
         },
     ))
 }
 
 // 1, 3, 22; 18.
 pub fn pause(img: &mut Image, head: Head, events: &mut Buffer) -> Answer
-    requires { Good img.old × (events.old ≡ event_buffer []) }
-    ensures { Does (pause_outcome img.old head.caller head.signers head.timestamp) result img.new events.new }
+    requires { Good img.old }
+    ensures { Does (pause_outcome img.old head.caller.number head.signers head.timestamp) result img.new events.new }
 {
-    checks::owner_gate(img, head.caller, head.signers)?;
+    checks::owner_gate(img, head.caller.number, head.signers)?;
     refusal::refuse_if(checks::has_flag(img, Flag::Paused), Refusal::AlreadyPaused)?;
     storage::set_flag(img, Flag::Paused);
     Ok(outcome::announce(
         events,
         Event::Paused {
-            caller: head.caller,
+            caller: head.caller.number,
             paused_at: head.timestamp,
         },
     ))
@@ -152,16 +150,16 @@ pub fn pause(img: &mut Image, head: Head, events: &mut Buffer) -> Answer
 
 // 1, 3, 22; 19.
 pub fn unpause(img: &mut Image, head: Head, events: &mut Buffer) -> Answer
-    requires { Good img.old × (events.old ≡ event_buffer []) }
-    ensures { Does (unpause_outcome img.old head.caller head.signers head.timestamp) result img.new events.new }
+    requires { Good img.old }
+    ensures { Does (unpause_outcome img.old head.caller.number head.signers head.timestamp) result img.new events.new }
 {
-    checks::owner_gate(img, head.caller, head.signers)?;
+    checks::owner_gate(img, head.caller.number, head.signers)?;
     refusal::refuse_if(!checks::has_flag(img, Flag::Paused), Refusal::NotPaused)?;
     storage::clear_flag(img, Flag::Paused);
     Ok(outcome::announce(
         events,
         Event::Unpaused {
-            caller: head.caller,
+            caller: head.caller.number,
             resumed_at: head.timestamp,
         },
     ))

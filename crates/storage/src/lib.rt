@@ -8,7 +8,7 @@ ghost use Rattle.refusal.specs.Numbers.{code};
 ghost use Rattle.image.specs.Flags.{flag_bit};
 ghost use Rattle.image.specs.Layout.{slot, flags, tracked_count, credit, with_bit, without_bit};
 ghost use Rattle.image.specs.Good.{tracked};
-ghost use Rattle.storage.specs.Facts.{Good, Keys};
+ghost use Rattle.storage.specs.Facts.{Keys};
 ghost use Rattle.storage.specs.Setters.{track_key, set_credit, set_cap, record_balance, snapshot_number};
 
 use amount::Amount;
@@ -19,8 +19,10 @@ fn is_tracked(img: &Image, k: u16) -> bool
     requires { Keys img.now }
     ensures { result ≡ tracked img.now (tracked_count img.now) k }
 {
-    let n = fields::get64(img, image::TRACKED_COUNT) as usize;
-    (0..n).any(|i| fields::get16(img, image::TRACKED_KEYS + 2 * i) == k)
+    let Some(keys) = image::tracked_keys(img) else {
+        return false;
+    };
+    keys.iter().any(|key| u16::from_le_bytes(*key) == k)
 }
 
 // Keys are distinct and below 1,088, so that there is room for one that is not tracked yet.
@@ -32,6 +34,7 @@ fn track_vault_key(img: &mut Image, k: u16)
     if is_tracked(img, k) {
         return;
     }
+    // At most 1,088, so that the cast loses nothing.
     let n = fields::get64(img, image::TRACKED_COUNT);
     fields::put16(img, image::TRACKED_KEYS + 2 * (n as usize), k);
     fields::put64(img, image::TRACKED_COUNT, n + 1);
@@ -49,11 +52,11 @@ pub fn set_token_account_balance(img: &mut Image, token: Token, account: Address
     ensures { img.new ≡ set_credit img.old token.address account.number (biased balance) }
 {
     amount::write_amount(img, image::credit_at(token, account), balance);
-    let key = 64 * token.slot() + usize::from(account.number);
-    track_vault_key(img, key as u16);
+    let key = 64 * u16::from(token.address - 48) + u16::from(account.number);
+    track_vault_key(img, key);
 }
 
-// The set with bit k, below 64, set.
+// The set with bit k, below 64, set. Addresses and flags are numbered so, and share no type.
 #[tactic(auto, using(crate::specs::Bits::shifted_one, crate::specs::Bits::or_bit))]
 pub fn with_bit(set: u64, k: u64) -> u64
     requires { k < 64 }
@@ -71,23 +74,21 @@ pub fn without_bit(set: u64, k: u64) -> u64
     set & !(1 << k)
 }
 
-// This and `clear_flag` differ in the function that they call; a closure for it would be longer. Flags are below 64.
+#[tactic(auto, using(crate::specs::Bits::shifted_flag, crate::specs::Bits::or_bit, image::specs::Flags::flag_below))]
 pub fn set_flag(img: &mut Image, flag: Flag)
-    requires { Good img.old }
     ensures { img.new ≡ put 2 img.old 0 (with_bit (flags img.old) (flag_bit flag)) }
 {
-    let set = u64::from(fields::get16(img, image::FLAGS));
-    let k = u64::from(u16::from(flag));
-    fields::put16(img, image::FLAGS, with_bit(set, k) as u16);
+    let set = fields::get16(img, image::FLAGS);
+    fields::put16(img, image::FLAGS, set | 1 << u8::from(flag));
 }
 
+// `set_flag` and this are the two things done to a bit, by two operators.
+#[tactic(auto, using(crate::specs::Bits::shifted_flag, crate::specs::Bits::and_not_flag, image::specs::Flags::flag_below))]
 pub fn clear_flag(img: &mut Image, flag: Flag)
-    requires { Good img.old }
     ensures { img.new ≡ put 2 img.old 0 (without_bit (flags img.old) (flag_bit flag)) }
 {
-    let set = u64::from(fields::get16(img, image::FLAGS));
-    let k = u64::from(u16::from(flag));
-    fields::put16(img, image::FLAGS, without_bit(set, k) as u16);
+    let set = fields::get16(img, image::FLAGS);
+    fields::put16(img, image::FLAGS, set & !(1 << u8::from(flag)));
 }
 
 #[tactic(auto, unfolding(crate::specs::Setters::set_cap), using(crate::specs::Kept::cap_keys))]
@@ -125,15 +126,10 @@ pub fn check_vault_balance(
 ) -> Result<(), Refusal>
     ensures { code result ≡ snapshot_number img.now token.address sequence (biased balance) }
 {
-    let at = image::snapshot_at(token);
-    if fields::get32(img, at) != 1 {
-        return Ok(());
+    match image::vault_snapshot(img, token) {
+        Some(snapshot) if snapshot.sequence == sequence => {
+            refusal::refuse_if(snapshot.balance != balance, Refusal::VaultBalanceChanged)
+        }
+        _ => Ok(()),
     }
-    if fields::get32(img, at + 4) != sequence {
-        return Ok(());
-    }
-    if amount::read_amount(img, at + 8) != balance {
-        return Err(Refusal::VaultBalanceChanged);
-    }
-    Ok(())
 }

@@ -16,13 +16,15 @@ use refusal::Refusal;
 // The vault's own address.
 pub const VAULT: Address = Address { number: 1 };
 
-// 23 where there is no such token.
+// 23 where there is no such token. Any number may be asked for: one above 255 is no token's.
 #[tactic(auto, unfolding(fields::specs::Rules::verdict, crate::specs::Token::absent_number))]
-pub fn presence_check(img: &Image, t: u8) -> Result<Token, Refusal>
+pub fn presence_check(img: &Image, t: usize) -> Result<Token, Refusal>
     ensures number { code result ≡ absent_number img.now t }
     ensures token { IfOk result (λ token. token.address ≡ t) }
 {
-    Token::new(t)
+    u8::try_from(t)
+        .ok()
+        .and_then(Token::new)
         .filter(|token| image::token_kind(img, *token) != Kind::Absent)
         .ok_or(Refusal::TokenCallFailed)
 }
@@ -34,6 +36,7 @@ pub fn moving(img: &Image, t: u8) -> Option<Token>
     Token::new(t).filter(|token| image::token_kind(img, *token) == Kind::Moving)
 }
 
+// SEP-41's name; the contract's `storage::get_token_account_balance` reads a credit so, and is defined apart.
 pub fn balance(img: &Image, token: Token, a: Address) -> Amount
     ensures { biased result ≡ holding img.now (slot token.address) a.number }
 {
@@ -108,7 +111,7 @@ struct Moved {
 #[tactic(auto, unfolding(fields::specs::Rules::verdict, crate::specs::Token::transfer_number), using(amount::specs::Order::less_is, crate::proofs::Steps::refused_if, crate::proofs::Steps::too_much, crate::proofs::Steps::is_room, crate::proofs::Steps::sum_received))]
 fn transfer_check(
     img: &Image,
-    t: u8,
+    t: usize,
     from: Address,
     to: Address,
     n: Amount,
@@ -117,7 +120,10 @@ fn transfer_check(
     ensures number { code result ≡ transfer_number img.now t from.number to.number (biased n) }
     ensures moved { IfOk result (MovedIs img.now t from.number to.number (biased n)) }
 {
-    let token = moving(img, t).ok_or(Refusal::TokenCallFailed)?;
+    let token = u8::try_from(t)
+        .ok()
+        .and_then(|t| moving(img, t))
+        .ok_or(Refusal::TokenCallFailed)?;
     let held = balance(img, token, from);
     refusal::refuse_if(held < n, Refusal::TokenCallFailed)?;
     let left = held - n;
@@ -135,7 +141,7 @@ fn transfer_check(
 #[tactic(auto, unfolding(crate::specs::Token::transferred), using(refusal::specs::Laws::some_number, crate::proofs::Steps::moved))]
 pub fn transfer(
     img: &mut Image,
-    t: u8,
+    t: usize,
     from: Address,
     to: Address,
     n: Amount,

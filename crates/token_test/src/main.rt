@@ -26,7 +26,7 @@ fn show(rt: &impl Print, image: &Image, token: Token, a: Address) -> io::Result<
 
 // 30 where the image is not good.
 #[tactic(auto, using(storage::specs::Facts::facts))]
-fn moved(image: &mut Image, t: u8, from: Address, to: Address, n: u64) -> Result<(), Refusal> {
+fn moved(image: &mut Image, t: usize, from: Address, to: Address, n: u64) -> Result<(), Refusal> {
     refusal::refuse_if(!image::good_image(image), Refusal::InvalidImage)?;
     token::transfer(image, t, from, to, Amount::from(n))
 }
@@ -38,7 +38,7 @@ fn try_transfer(
     to: Address,
     n: u64,
 ) -> io::Result<()> {
-    let answer = moved(image, token.address, SENDER, to, n);
+    let answer = moved(image, usize::from(token.address), SENDER, to, n);
     print!(rt; "{} ", refusal::number(&answer))?;
     show(rt, image, token, SENDER)?;
     show(rt, image, token, to)?;
@@ -46,7 +46,7 @@ fn try_transfer(
 }
 
 // An address that is no token's.
-fn try_stranger(rt: &impl Print, image: &mut Image, t: u8) -> io::Result<()> {
+fn try_stranger(rt: &impl Print, image: &mut Image, t: usize) -> io::Result<()> {
     let answer = moved(image, t, SENDER, token::VAULT, 1);
     println!(rt; "{} ", refusal::number(&answer))
 }

@@ -1,18 +1,16 @@
 -- The values of the views, from what the functions called say.
-use mathlib.Core.Path.{◌≡◌, refl, sym}
+use mathlib.Core.Path.{◌≡◌}
 use mathlib.Core.List.{List}
 use Prim.Native.Nat.{ℕ, ◌+◌, ◌-◌, ◌≤◌, ◌<◌}
 use native.Mathlib.Omega.{arith}
 use borrow.Author.Tests.{eq-eqb, ne_eqb, lt-ltb, le-ltb}
-use Rattle.checks.specs.Passed.{initialised_free}
-use Rattle.fields.specs.Rules.{unlinked}
 use Rattle.storage.specs.Facts.{Good}
 use Rattle.storage.specs.Writes.{holding_range, credit_range, default_range}
 use Rattle.token.specs.Token.{vault_balance}
 use Rattle.image.specs.Layout.{slot, owner, default_token, operator_limit, credit, initialised, has_operator_limit}
 use Rattle.amount.specs.Laws.{by_lt}
 use Rattle.amount.specs.Biased.{bias}
-use Rattle.views.specs.Views.{effective_number, effective_value, account_balance}
+use Rattle.views.specs.Views.{effective_value, account_balance}
 
 pub operator_limit_range : (l : List ℕ) → Good l → initialised l ≡ 1 → bias ≤ operator_limit l
 operator_limit_range l g i =
@@ -26,10 +24,6 @@ default_holding l g i = let (low, high) = default_range l g i in (holding_range 
 
 pub shown_balance : (l : List ℕ) {z : ℕ} → Good l → initialised l ≡ 1 → z ≡ vault_balance l → z ≡ bias + (vault_balance l - bias)
 shown_balance l g i e = let d = default_holding l g i in omega arith
-
-pub effective_free : (l : List ℕ) (caller : ℕ) → 0 ≡ effective_number l caller → initialised l ≡ 1
-unfolding effective_number
-effective_free l caller e = let u = unlinked _ (sym e) in initialised_free l refl u.1.0
 
 module _ (l : List ℕ) (caller : ℕ) (g : Good l) (i : initialised l ≡ 1) {h : ℕ} (e : h ≡ vault_balance l) where
   pub owner_value : owner l ≡ caller → h ≡ bias + effective_value l caller

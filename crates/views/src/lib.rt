@@ -1,16 +1,14 @@
 // The views, operations 24 to 28 (lib.rs).
-#![tactic(auto, unfolding(fields::specs::Rules::chain, fields::specs::Rules::or_else, fields::specs::Rules::verdict, crate::specs::Views::withdraw_cap_number, crate::specs::Views::effective_number, crate::specs::Views::account_outcome, crate::specs::Views::approved_outcome, crate::specs::Views::compliant_number, crate::specs::Views::compliant_outcome, checks::specs::Checks::insider_role_number), using(outcome::specs::Outcome::view_refused, outcome::specs::Outcome::view_accepted, checks::specs::Passed::initialised_free, amount::specs::Order::biased_zero))]
+#![tactic(auto, unfolding(crate::specs::Views::account_outcome, crate::specs::Views::approved_outcome, crate::specs::Views::compliant_number, crate::specs::Views::compliant_outcome), using(outcome::specs::Outcome::view_refused, outcome::specs::Outcome::view_accepted, checks::specs::Passed::initialised_free, amount::specs::Order::biased_zero))]
 
-ghost use Rattle.std.specs.Prelude.{◌≡◌, ◌+◌, ◌<◌};
-ghost use Rattle.refusal.specs.Numbers.{code};
+ghost use Rattle.std.specs.Prelude.{◌≡◌, ◌+◌};
 ghost use Rattle.amount.specs.Biased.{bias, biased};
-ghost use Rattle.image.specs.Layout.{initialised};
 ghost use Rattle.storage.specs.Facts.{Good};
 ghost use Rattle.outcome.specs.Outcome.{Views};
-ghost use Rattle.views.specs.Views.{balance_outcome, withdraw_cap_number, effective_number, effective_value, effective_outcome, account_balance, account_outcome, approved_outcome, compliant_outcome};
+ghost use Rattle.views.specs.Views.{balance_outcome, effective_outcome, account_balance, account_outcome, approved_outcome, compliant_outcome};
 
 use amount::Amount;
-use image::{Address, Flag, Image, Token};
+use image::{Address, Image, Token};
 use outcome::{Answer, Done};
 use record::Head;
 use refusal::Refusal;
@@ -24,84 +22,54 @@ pub fn balance(img: &Image) -> Answer
     Ok(Done::viewed(token::vault_balance(img)))
 }
 
-// 3, 6.
-fn withdraw_cap_check(img: &Image, caller: u8) -> Result<(), Refusal>
-    ensures { code result ≡ withdraw_cap_number img.now caller }
-{
-    if fields::get8(img, image::OWNER) == caller {
-        return Ok(());
-    }
-    checks::insider_role_check(img, caller)?;
-    refusal::refuse_if(
-        !checks::has_flag(img, Flag::OperatorLimit),
-        Refusal::LimitExceeded,
-    )
-}
-
-// 8; 1; 3, 6.
-fn effective_check(img: &Image, caller: u8) -> Result<(), Refusal>
-    ensures { code result ≡ effective_number img.now caller }
+// 8; 1; 3, 6. The owner may take all that is there.
+#[tactic(auto, unfolding(fields::specs::Rules::chain, fields::specs::Rules::or_else, fields::specs::Rules::verdict, checks::specs::Checks::flag, checks::specs::Checks::insider_role_number, crate::specs::Views::withdraw_cap_number, crate::specs::Views::effective_number, crate::specs::Views::effective_outcome), using(outcome::specs::Outcome::view_refused, outcome::specs::Outcome::view_accepted, checks::specs::Passed::initialised_free, crate::proofs::Steps::owner_value, crate::proofs::Steps::capped_value, crate::proofs::Steps::full_value, amount::specs::Order::lt_true, amount::specs::Order::lt_false))]
+pub fn effective_withdraw_limit(img: &Image, head: Head) -> Answer
+    requires { Good img.now }
+    ensures { Views (effective_outcome img.now head.caller.number) result }
 {
     checks::paused_check(img)?;
     checks::initialised_check(img)?;
-    withdraw_cap_check(img, caller)
-}
-
-#[tactic(auto, using(crate::proofs::Steps::owner_value, crate::proofs::Steps::capped_value, crate::proofs::Steps::full_value, amount::specs::Order::lt_true, amount::specs::Order::lt_false))]
-fn effective_value(img: &Image, caller: u8) -> Amount
-    requires { Good img.now × (initialised img.now ≡ 1) }
-    ensures { biased result ≡ bias + effective_value img.now caller }
-{
     let held = token::vault_balance(img);
-    if fields::get8(img, image::OWNER) == caller {
-        return held;
+    if fields::get8(img, image::OWNER) == head.caller.number {
+        return Ok(Done::viewed(held));
     }
-    held.min(amount::read_amount(img, image::OPERATOR_LIMIT))
-}
-
-#[tactic(auto, unfolding(crate::specs::Views::effective_outcome), using(outcome::specs::Outcome::view_refused, outcome::specs::Outcome::view_accepted, crate::proofs::Steps::effective_free))]
-pub fn effective_withdraw_limit(img: &Image, head: Head) -> Answer
-    requires { Good img.now }
-    ensures { Views (effective_outcome img.now head.caller) result }
-{
-    effective_check(img, head.caller)?;
-    Ok(Done::viewed(effective_value(img, head.caller)))
+    checks::insider_role_check(img, head.caller.number)?;
+    let limit = image::operator_limit(img).ok_or(Refusal::LimitExceeded)?;
+    Ok(Done::viewed(held.min(limit)))
 }
 
 #[tactic(auto, using(crate::proofs::Steps::no_token, crate::proofs::Steps::token_credit, amount::specs::Order::biased_zero))]
-fn account_balance(img: &Image, t: u8, account: Address) -> Amount
-    requires { Good img.now × (t < 64) }
-    ensures { biased result ≡ bias + account_balance img.now t account.number }
+fn account_balance(img: &Image, address: Address, account: Address) -> Amount
+    requires { Good img.now }
+    ensures { biased result ≡ bias + account_balance img.now address.number account.number }
 {
-    let Some(token) = Token::new(t) else {
+    let Some(token) = Token::new(address.number) else {
         return Amount::ZERO;
     };
     storage::get_token_account_balance(img, token, account)
 }
 
 pub fn get_token_account_balance(img: &Image, head: Head) -> Answer
-    requires { Good img.now × (head.token < 64) × (head.caller < 64) }
-    ensures { Views (account_outcome img.now head.token head.caller) result }
+    requires { Good img.now }
+    ensures { Views (account_outcome img.now head.token.number head.caller.number) result }
 {
-    let account = Address {
-        number: head.caller,
-    };
-    Ok(Done::viewed(account_balance(img, head.token, account)))
+    Ok(Done::viewed(account_balance(img, head.token, head.caller)))
 }
 
 pub fn is_token_approved(img: &Image, head: Head) -> Answer
-    ensures { Views (approved_outcome img.now head.token) result }
+    ensures { Views (approved_outcome img.now head.token.number) result }
 {
-    let approved = checks::contains(fields::get64(img, image::APPROVED_SET), head.token);
+    let approved = checks::contains(fields::get64(img, image::APPROVED_SET), head.token.number);
     Ok(Done::viewed(Amount::from(u64::from(approved))))
 }
 
 pub fn is_token_compliant(img: &Image, head: Head) -> Answer
-    ensures { Views (compliant_outcome img.now head.token) result }
+    ensures { Views (compliant_outcome img.now head.token.number) result }
 {
-    if head.token == 0 {
+    if head.token.number == 0 {
         return Ok(Done::viewed(Amount::ZERO));
     }
-    token::presence_check(img, head.token)?;
+    token::presence_check(img, usize::from(head.token.number))?;
     Ok(Done::viewed(Amount::from(1)))
 }

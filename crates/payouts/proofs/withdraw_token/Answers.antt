@@ -7,4 +7,4 @@ returns c =
     let t = c.in_ok-token.ensures in
     let y = c.in_ok-send.ensures in
     let m = c.settle.ensures in
-    token_withdrawn c.args.img.now c.args.head _ t.number t.token c.new-paid.ensures y.value y.img_after c.requires.3 m.img_after m.events_after c.new.ensures
+    token_withdrawn c.args.img.now c.args.head _ t.number t.token c.new-paid.ensures y.value y.img_after m.img_after m.events_after c.new.ensures

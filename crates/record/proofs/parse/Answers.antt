@@ -2,21 +2,15 @@
 use Rattle.std.proofs.Common.{sym}
 use Rattle.refusal.specs.Laws.{code_passed}
 use Rattle.record.proofs.Decoded.{decoded, undecoded}
-use Rattle.record.proofs.Form.{other_length, no_operation, head_refused, items_refused, good_form}
+use Rattle.record.proofs.Form.{no_operation, head_refused, items_refused, good_form}
 use native.Mathlib.Omega.{arith}
 use Rattle.record.proofs.parse.Goals as goal
 use Rattle.record.proofs.parse.Goals.{then-head_exceeds-via-then-head_exceeds, then-head_exceeds-via-else-head_exceeds+then-items_exceed}
-
-pub returns-in_default-clause-number : goal.returns-in_default-clause-number
-returns-in_default-clause-number c = other_length _ (c.in_default.ensures.1)
 
 pub returns-in_err-operation-clause-number : goal.returns-in_err-operation-clause-number
 returns-in_err-operation-clause-number c =
     let u = undecoded c.in-Ok.rec.now _ c.try_from-2.ensures _ c.in_err-operation.was in
     rw (code_passed _ _ c.from_residual.ensures, u.1) (no_operation _ _ c.in-Ok.ensures.1 u.0)
-
-pub invariant_of-reading : goal.invariant_of-reading
-invariant_of-reading c = record { named = decoded c.in-Ok.rec.now _ c.try_from-2.ensures _ c.in_ok-operation.was }
 
 pub returns-then-head_exceeds-clause-number : goal.returns-then-head_exceeds-clause-number
 returns-then-head_exceeds-clause-number c =

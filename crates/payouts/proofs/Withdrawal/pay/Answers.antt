@@ -1,6 +1,6 @@
--- `payouts::pay` meets its contract.
+-- `payouts::Withdrawal::pay` meets its contract.
 use Rattle.payouts.proofs.Steps.{not_paid, paid}
-use Rattle.payouts.proofs.pay.Goals as goal
+use Rattle.payouts.proofs.Withdrawal.pay.Goals as goal
 
 pub returns-in_err-send : goal.returns-in_err-send
 returns-in_err-send c = not_paid _ _ _ _ _ _ _ _ _ c.from_residual.ensures c.in_err-send.ensures.value

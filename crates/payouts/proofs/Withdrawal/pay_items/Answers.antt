@@ -1,0 +1,24 @@
+-- `payouts::Withdrawal::pay_items` meets its contract.
+use Rattle.payouts.proofs.Loops.{pay_begins, pay_ends, amount, pay_stops, pay_goes_on}
+use Rattle.payouts.proofs.Steps.{passed_pays}
+use Rattle.refusal.specs.Laws.{some_number}
+use mathlib.Core.Path.{refl}
+use native.Mathlib.Omega.{arith}
+use Rattle.payouts.proofs.Withdrawal.pay_items.Goals as goal
+
+pub loop-i-init : goal.loop-i-init
+loop-i-init c = pay_begins _ _ _ _ _ _ c.requires.0 c.requires.1 c.requires.2
+
+pub invariant_of-due : goal.invariant_of-due
+invariant_of-due c = record { not_negative = amount _ _ _ _ _ _ _ c.loop-i.invariant (omega arith) c.get-item.ensures.1 }
+
+pub returns-in_err-pay : goal.returns-in_err-pay
+returns-in_err-pay c =
+    passed_pays _ _ c.from_residual.ensures
+    (pay_stops _ _ _ _ _ _ _ c.loop-i.invariant (omega arith) c.get-item.ensures.0 c.get-item.ensures.1 c.in_err-pay.ensures (some_number _))
+
+pub loop-i-preserved : goal.loop-i-preserved
+loop-i-preserved c = pay_goes_on _ _ _ _ _ _ _ c.loop-i.invariant (omega arith) c.get-item.ensures.0 c.get-item.ensures.1 c.in_ok-pay.ensures refl
+
+pub returns : goal.returns
+returns c = pay_ends _ _ _ _ _ _ _ c.loop-i.invariant (omega arith)

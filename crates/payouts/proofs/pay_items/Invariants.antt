@@ -1,9 +1,0 @@
--- `payouts::pay_items` meets its contract.
-use Rattle.payouts.proofs.Loops.{Paying}
-use Rattle.payouts.specs.Payouts.{items}
-use Rattle.amount.specs.Biased.{num}
-use Prim.Native.Nat.{◌-◌}
-use Rattle.payouts.proofs.pay_items.Given as goal
-
-abbrev pub invariant-loop-i : goal.invariant-loop-i
-invariant-loop-i l = Paying l.paid.token.address l.paid.sequence l.paid.caller (num l.paid.by_operator) (items l.listed.count 0 l.listed.rec.now) l.initial.img l.initial.events l.i (items (l.listed.count - l.i) l.i l.listed.rec.now) l.img l.events
