@@ -12,7 +12,7 @@ ghost use Rattle.refusal.specs.Numbers.{code};
 
 use refusal::Refusal;
 
-// The numbers of a head: the calls and the entries that it counts.
+// The numbers of a head: the calls and the entries that it counts. Entries are places of a slice, and may be more than a head holds.
 #[derive(Clone, Copy)]
 struct Counts {
     calls: u16,
@@ -26,7 +26,8 @@ pub struct EntryHead {
     pub call: u16,
 }
 
-// Cells that stand side by side, the number of the first of them, and the call that they are entered for.
+// Cells that stand side by side, the number of the first of them, and the call that they are entered for. The number of cells is a constant
+// in a stretch, which the compiler sees here alone; by the slices' length, finding every cell changed took two fifths longer.
 #[derive(Clone, Copy, Debug, PartialEq, Eq)]
 pub struct Span {
     pub cells: usize,
@@ -89,6 +90,7 @@ fn in_order(entry: EntryHead, cells: usize, calls: u16, last: u16, next: usize) 
 }
 
 // Whether so many entries in order, and then zeros, stand behind the head.
+// The order of an entry depends on the one before it, so `last` and `next` are kept from one to the next.
 fn good_entries(journal: &[u8], cells: usize, counts: Counts) -> bool
     requires { 24 * suc counts.entries ≤ length journal.now }
     ensures { result ≡ scan_entries cells counts.calls counts.entries 0 0 (drop 24 journal.now) }
@@ -175,7 +177,7 @@ fn earlier_entries(journal: &[u8], counts: Counts) -> usize
         .map_or(0, |n| n + 1)
 }
 
-// Zeroes the entries behind the first `from`, up to the first `to`.
+// Zeroes the entries behind the first `from`, up to the first `to`. The range of bytes is plainer than the chunks of it.
 fn clear_entries(journal: &mut [u8], from: usize, to: usize)
     requires { (from ≤ to) × (24 * suc to ≤ length journal.old) }
     ensures { journal.new ≡ take (24 * suc from) journal.old ++ (replicate (24 * (to - from)) 0 ++ drop (24 * suc to) journal.old) }
@@ -251,7 +253,8 @@ fn same_cell(old: &[u8; 16], new: &[u8; 16]) -> bool
     old == new
 }
 
-// Writes an entry for each cell that changed, as far as there are places, and counts them all. `same` tells whether two cells are the same.
+// Writes an entry for each cell that changed, as far as there are places, and counts them all; `same` compares two cells. The cast loses nothing, by `Cells`.
+// By index, here and in `enter_cells`: with `zip` and `enumerate`, finding one changed cell in each stretch took half as long again.
 pub fn enter_span<F: Fn(&[u8; 16], &[u8; 16]) -> bool>(
     old: &[u8],
     new: &[u8],

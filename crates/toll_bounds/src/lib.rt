@@ -110,9 +110,7 @@ fn holdings_of(image: &Image, t: u8, amounts: &[u8], tolls: Range) -> Result<Ran
 pub fn toll_bounds(image: &[u8], token: u8, amounts: &[u8], tolls: Range) -> Result<Range, Refusal>
     ensures { HoldingsAre (toll_bounds image.now token amounts.now (biased tolls.least) (biased tolls.greatest)) result }
 {
-    if !image::good_image(image) {
-        return Err(Refusal::InvalidImage);
-    }
+    refusal::refuse_if(!image::good_image(image), Refusal::InvalidImage)?;
     holdings_of(image.try_into().unwrap(), token, amounts, tolls)
 }
 
