@@ -1,20 +1,15 @@
--- What `all` and `any` answer over the numbers below n.
-use Rattle.std.specs.Prelude.{◌≡◌, refl, Bool, true, false, ◌&&◌, ◌||◌, List, [], ◌∷◌, ◌++◌, ℕ, zero, suc, ◌+◌, ◌-◌}
-use Rattle.std.specs.List.{list_all, list_any, range_with_len}
+-- What `all` answers over the numbers below n.
+use Rattle.std.specs.Prelude.{◌≡◌, refl, Bool, true, false, ◌&&◌, List, [], ◌∷◌, ◌++◌, ℕ, zero, suc, ◌+◌, ◌-◌}
+use Rattle.std.specs.List.{list_all, range_with_len}
 use Rattle.std.specs.Fn.{Called}
-use Rattle.std.specs.Iterator.{ChecksAll, ChecksAny}
+use Rattle.std.specs.Iterator.{ChecksAll}
 use Rattle.std.proofs.Common.{arith, sym, ap, ◌∙◌, add-zero}
 use Rattle.std.proofs.iter.Yields.{nat_range_steps}
 use Rattle.std.proofs.lemmas.Iterator.{YieldsList-from_range}
-use Rattle.std.proofs.lemmas.Iterator.Search.{all_from_yields_List, any_from_yields_List}
-use Rattle.std.proofs.lemmas.List.Folds.{list_all-append, list_any-append}
+use Rattle.std.proofs.lemmas.Iterator.Search.{all_from_yields_List}
+use Rattle.std.proofs.lemmas.List.Folds.{list_all-append}
 use denote.Param.Members.{Mut}
-use Rattle.fields.specs.Logic.{◌and◌, ◌or◌, all}
-
--- p holds of some number below n
-abbrev pub some : (ℕ → Bool) → ℕ → Bool
-some p zero = false
-some p (suc n) = p n or some p n
+use Rattle.fields.specs.Logic.{◌and◌, all}
 
 range_more : (n a : ℕ) → range_with_len a (suc n) ≡ range_with_len a n ++ (a + n) ∷ []
 range_more zero a = ap (λ (k : ℕ). k ∷ []) (sym (add-zero a))
@@ -28,13 +23,6 @@ alone_all true true = refl
 alone_all true false = refl
 alone_all false b = refl
 
-alone_any : (a b : Bool) → a || (b || false) ≡ b or a
-unfolding ◌or◌
-alone_any true true = refl
-alone_any true false = refl
-alone_any false true = refl
-alone_any false false = refl
-
 all_of_range : (p : ℕ → Bool) (n : ℕ) → list_all p (range_with_len 0 n) ≡ all p n
 unfolding all
 all_of_range p zero = refl
@@ -42,15 +30,6 @@ all_of_range p (suc n) =
     let q : 0 + n ≡ n = omega arith in
     ap (list_all p) (range_more n 0) ∙ rw (q, list_all-append p (range_with_len 0 n) (n ∷ []), all_of_range p n) (alone_all (all p n) (p n))
 
-any_of_range : (p : ℕ → Bool) (n : ℕ) → list_any p (range_with_len 0 n) ≡ some p n
-any_of_range p zero = refl
-any_of_range p (suc n) =
-    let q : 0 + n ≡ n = omega arith in
-    ap (list_any p) (range_more n 0) ∙ rw (q, list_any-append p (range_with_len 0 n) (n ∷ []), any_of_range p n) (alone_any (some p n) (p n))
-
 module _ {F : Type 0} {g : Mut F (ℕ × Unit {0}) Bool} {f : F} {r : Bool} {u : _} (p : ℕ → Bool) (n : ℕ) where
   pub all_below : ChecksAll nat_range_steps g (record { start = 0; end = n }) f r u → ((x : ℕ) (b : Bool) (q : F) → Called g f (x, tt) b q → (q ≡ f) × (b ≡ p x)) → r ≡ all p n
   all_below d k = let e : n - 0 ≡ n = omega arith in all_from_yields_List p _ _ _ d (YieldsList-from_range 0 n n refl e) k ∙ all_of_range p n
-
-  pub any_below : ChecksAny nat_range_steps g (record { start = 0; end = n }) f r u → ((x : ℕ) (b : Bool) (q : F) → Called g f (x, tt) b q → (q ≡ f) × (b ≡ p x)) → r ≡ some p n
-  any_below d k = let e : n - 0 ≡ n = omega arith in any_from_yields_List p _ _ _ d (YieldsList-from_range 0 n n refl e) k ∙ any_of_range p n

@@ -44,11 +44,10 @@ fn approved_set(img: &Image, head: Head) -> u64
     ensures { result ≡ pick (eqb (num head.flag) 1) (with_bit (approved_set img.now) head.token.number) (without_bit (approved_set img.now) head.token.number) }
 {
     let set = fields::get64(img, image::APPROVED_SET);
-    let token = u64::from(head.token.number);
     if head.flag {
-        storage::with_bit(set, token)
+        storage::with_bit(set, head.token)
     } else {
-        storage::without_bit(set, token)
+        storage::without_bit(set, head.token)
     }
 }
 
@@ -91,11 +90,7 @@ fn initialize_image(img: &mut Image, head: Head)
     fields::put8(img, image::DEFAULT_TOKEN, head.token.number);
     amount::write_amount(img, image::VAULT_LIMIT, head.amount);
     fields::put64(img, image::TIME_TO_LIVE, PROPOSAL_TIME_TO_LIVE);
-    fields::put64(
-        img,
-        image::APPROVED_SET,
-        storage::with_bit(set, u64::from(head.token.number)),
-    );
+    fields::put64(img, image::APPROVED_SET, storage::with_bit(set, head.token));
 }
 
 pub fn initialize(img: &mut Image, head: Head, events: &mut Buffer) -> Answer

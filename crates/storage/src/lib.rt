@@ -56,22 +56,20 @@ pub fn set_token_account_balance(img: &mut Image, token: Token, account: Address
     track_vault_key(img, key);
 }
 
-// The set with bit k, below 64, set.
+// The set of addresses with one more.
 #[tactic(auto, using(crate::specs::Bits::shifted_one, crate::specs::Bits::or_bit))]
-pub fn with_bit(set: u64, k: u64) -> u64
-    requires { k < 64 }
-    ensures { result ≡ with_bit set k }
+pub fn with_bit(set: u64, a: Address) -> u64
+    ensures { result ≡ with_bit set a.number }
 {
-    set | 1 << k
+    set | 1 << a.number
 }
 
-// The set with bit k, below 64, cleared.
+// The set of addresses with one less.
 #[tactic(auto, using(crate::specs::Bits::shifted_one, crate::specs::Bits::and_not_bit))]
-pub fn without_bit(set: u64, k: u64) -> u64
-    requires { k < 64 }
-    ensures { result ≡ without_bit set k }
+pub fn without_bit(set: u64, a: Address) -> u64
+    ensures { result ≡ without_bit set a.number }
 {
-    set & !(1 << k)
+    set & !(1 << a.number)
 }
 
 #[tactic(auto, using(crate::specs::Bits::shifted_flag, crate::specs::Bits::or_bit, image::specs::Flags::flag_below))]
@@ -97,11 +95,7 @@ pub fn set_token_max_limit(img: &mut Image, address: Address, limit: Amount)
     ensures { img.new ≡ set_cap img.old address.number (biased limit) }
 {
     let set = fields::get64(img, image::CAPPED_SET);
-    fields::put64(
-        img,
-        image::CAPPED_SET,
-        with_bit(set, u64::from(address.number)),
-    );
+    fields::put64(img, image::CAPPED_SET, with_bit(set, address));
     amount::write_amount(img, image::cap_at(address), limit);
     track_vault_key(img, 1024 + u16::from(address.number));
 }
