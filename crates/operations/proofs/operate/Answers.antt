@@ -1,4 +1,5 @@
 -- `operations::operate` meets its contract: each call by its name gives what the number of the operation gives.
+use borrow.Author.Rules.{rules}
 use Rattle.operations.specs.Laws.{operation_does}
 use Rattle.operations.proofs.operate.Goals as goal
 
@@ -54,10 +55,10 @@ pub returns-in-SetOwnerProposalTtl : goal.returns-in-SetOwnerProposalTtl
 returns-in-SetOwnerProposalTtl c = let p = c.args.parsed in operation_does _ _ _ _ p.good_form p.read c.in-SetOwnerProposalTtl.is c.set_owner_proposal_ttl.ensures
 
 pub returns-in-Pause : goal.returns-in-Pause
-returns-in-Pause c = let p = c.args.parsed in operation_does _ _ _ _ p.good_form p.read c.in-Pause.is c.pause.ensures
+returns-in-Pause c = let p = c.args.parsed in operation_does _ _ _ _ p.good_form p.read c.in-Pause.is (search rules)
 
 pub returns-in-Unpause : goal.returns-in-Unpause
-returns-in-Unpause c = let p = c.args.parsed in operation_does _ _ _ _ p.good_form p.read c.in-Unpause.is c.unpause.ensures
+returns-in-Unpause c = let p = c.args.parsed in operation_does _ _ _ _ p.good_form p.read c.in-Unpause.is (search rules)
 
 pub returns-in-ApproveToken : goal.returns-in-ApproveToken
 returns-in-ApproveToken c = let p = c.args.parsed in operation_does _ _ _ _ p.good_form p.read c.in-ApproveToken.is c.approve_token.ensures
