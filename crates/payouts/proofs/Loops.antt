@@ -1,7 +1,7 @@
 -- The loops over the items of a record: what holds after i of count of them.
 use mathlib.Core.Path.{◌≡◌, sym, ap, ◌∙◌}
 use mathlib.Core.List.{List, [], ◌∷◌}
-use Prim.Native.Nat.{ℕ, suc, ◌+◌, ◌-◌, ◌≤◌, ◌<◌}
+use Prim.Native.Nat.{ℕ, suc, ◌+◌, ◌-◌, ◌<◌}
 use native.Mathlib.Omega.{arith}
 use native.Mathlib.Nat.{sub-zero}
 use Rattle.book.specs.Moves.{still_begun}
@@ -12,14 +12,14 @@ use Rattle.amount.specs.Biased.{bias}
 use Rattle.fields.specs.Rules.{or_go, or_stop, or_none}
 use Rattle.payouts.specs.Parts.{put_events, Pays, Payable}
 use Rattle.payouts.proofs.Moved.{pay_moves}
-use Rattle.payouts.specs.Payouts.{payout, items, item_number, items_number, items_sum, pay_number, payouts_number, payouts_image, payouts_events}
+use Rattle.payouts.specs.Payouts.{payout, items, items_number, items_sum, pay_number, payouts_number, payouts_image, payouts_events}
 
 module _ (r : List ℕ) (count i : ℕ) where
-  items_end : count - i ≡ 0 → items (count - i) i r ≡ []
+  pub items_end : count - i ≡ 0 → items (count - i) i r ≡ []
   unfolding items
   items_end e = rw e
 
-  items_next : i < count → items (count - i) i r ≡ payout (item_address r i) (item_amount r i) ∷ items (count - (i + 1)) (i + 1) r
+  pub items_next : i < count → items (count - i) i r ≡ payout (item_address r i) (item_amount r i) ∷ items (count - (i + 1)) (i + 1) r
   unfolding items
   items_next h =
       let e : count - i ≡ suc (count - (i + 1)) = omega arith in
@@ -33,26 +33,6 @@ pub record Added (r : List ℕ) (count i s : ℕ) : Type 0 where
 
 pub sum_begins : (r : List ℕ) (count s : ℕ) → s ≡ bias → Added r count 0 s
 sum_begins r count s e = record { number = rw (sub-zero, e); sum = rw (sub-zero, e) }
-
-module _ (r : List ℕ) (count i s : ℕ) (w : Added r count i s) where
-  -- a turn: a is the item's amount, k the number of its check
-  module _ {a k : ℕ} (h : i < count) (p : a ≡ item_amount r i) (q : k ≡ item_number s a) where
-    checked : k ≡ item_number s (item_amount r i)
-    checked = rw p at q
-
-    pub sum_stops : (k ≡ 0 → ⊥) → k ≡ items_number (items count 0 r) bias
-    unfolding items_number
-    sum_stops z = checked ∙ or_stop _ _ (λ y. z (checked ∙ y)) ∙ sym (rw (items_next r count i h) at w.number)
-
-    pub sum_goes_on : {t : ℕ} → k ≡ 0 → t ≡ s + a - bias → Added r count (i + 1) t
-    unfolding items_number items_sum
-    sum_goes_on z e =
-        let n = items_next r count i h in
-        rw (e, p) (record { number = (rw n at w.number) ∙ or_go _ (sym checked ∙ z); sum = rw n at w.sum })
-
-  pub sum_ends : count - i ≡ 0 → (0 ≡ items_number (items count 0 r) bias) × (s ≡ items_sum (items count 0 r) bias)
-  unfolding items_number items_sum
-  sum_ends z = let n = items_end r count i z in (sym (rw n at w.number), sym (rw n at w.sum))
 
 -- ---- the payouts: m and v are image and events after the first i of them, l and e those at first
 pub record Paying (r : List ℕ) (t seq caller by count : ℕ) (l e : List ℕ) (i : ℕ) (m v : List ℕ) : Type 0 where
@@ -78,9 +58,6 @@ module _ (r : List ℕ) (t seq caller by count : ℕ) {l e : List ℕ} where
     module _ (h : i < count) where
       due : Payable (payout (item_address r i) (item_amount r i) ∷ items (count - (i + 1)) (i + 1) r)
       due = rw (items_next r count i h) at w.payable
-
-      pub amount : {a : ℕ} → a ≡ item_amount r i → bias ≤ a
-      amount p = rw p due.0.1
 
       -- to and a are the item's, k its payout's number, m' and v' image and events after it
       module _ {to a k : ℕ} {m' v' : List ℕ} (p : to ≡ item_address r i) (q : a ≡ item_amount r i) (d : Pays (payout to a ∷ []) t seq caller by m v i k m' v') where

@@ -98,6 +98,7 @@ impl Withdrawal {
     }
 
     // Payout by payout, each item's event in its place.
+    #[tactic(auto, using(crate::proofs::Loops::pay_begins, crate::proofs::Loops::items_next))]
     fn pay_items(
         self,
         img: &mut Image,
@@ -156,7 +157,7 @@ fn add_item(sum: Amount, n: Amount) -> Result<Amount, Refusal>
 }
 
 // Item by item 4, 7. The one of `batch_deposits` tests an item by other rules, and its sum cannot pass 2 ^ 127 - 1.
-#[tactic(auto, using(amount::specs::Order::biased_zero, crate::proofs::Loops::sum_begins, crate::proofs::Loops::sum_ends))]
+#[tactic(auto, unfolding(crate::specs::Payouts::items_number, crate::specs::Payouts::items_sum), using(amount::specs::Order::biased_zero, crate::proofs::Loops::sum_begins, crate::proofs::Loops::items_next, crate::proofs::Loops::items_end, fields::specs::Rules::or_go, fields::specs::Rules::or_stop, refusal::specs::Laws::code_passed, refusal::specs::Laws::some_number))]
 fn add_items(listed: Items<'_>) -> Result<Amount, Refusal>
     ensures number { code result ≡ items_number (items listed.entry.count 0 listed.entry.rec.now) bias }
     ensures total { IfOk result (λ t. biased t ≡ items_sum (items listed.entry.count 0 listed.entry.rec.now) bias) }

