@@ -12,6 +12,7 @@ ghost use Rattle.vault_program.specs.Records.{read_text, AnswersRead, TakesRecor
 
 use answer_line::Answer;
 use outcome::Done;
+use record::Record;
 use std::io;
 use std::io::{Read, Write};
 
@@ -32,7 +33,7 @@ pub fn printed(answer: outcome::Answer) -> Answer
 pub fn answer_record(image: &mut [u8], record: &[u8]) -> Answer
     ensures { Prints (record_step image.old «record».now) (text_of result) image.new }
 {
-    let mut events = [0u8; 896];
+    let mut events = [0u8; events::LENGTH];
     printed(token_vault::call_without_journal(image, record, &mut events))
 }
 
@@ -74,7 +75,7 @@ fn next_record<I: Read, O: Write>(
     input: &mut I,
     output: &mut O,
     image: &mut [u8],
-    record: &mut [u8; 448],
+    record: &mut Record,
 ) -> AnsweredRecord
     ensures read { Consumes (I.remaining input.old) (I.remaining input.new) (take result.read «record».new) }
     ensures answered { AnswersRead image.old «record».new result.read (read_text image.old «record».new result.read) image.new × (result.read ≤ 448) }
@@ -97,7 +98,7 @@ pub struct TakenRecords {
 fn all_records<I: Read, O: Write>(input: &mut I, output: &mut O, image: &mut [u8]) -> TakenRecords
     ensures { TakesRecords image.old image.new result.taken result.read (is_ok result.written) }
 {
-    let mut record = [0u8; 448];
+    let mut record = [0u8; record::LENGTH];
     for taken in 0..u64::MAX {
         let AnsweredRecord { read, written } = next_record(input, output, image, &mut record);
         if read == 0 {
@@ -107,7 +108,7 @@ fn all_records<I: Read, O: Write>(input: &mut I, output: &mut O, image: &mut [u8
                 written,
             };
         }
-        if read < 448 || written.is_err() {
+        if read < record::LENGTH || written.is_err() {
             return TakenRecords {
                 taken: taken + 1,
                 read,
@@ -117,7 +118,7 @@ fn all_records<I: Read, O: Write>(input: &mut I, output: &mut O, image: &mut [u8
     }
     TakenRecords {
         taken: u64::MAX,
-        read: 448,
+        read: record::LENGTH,
         written: Ok(()),
     }
 }
@@ -128,7 +129,7 @@ fn run_image<I: Read, O: Write>(input: &mut I, output: &mut O, image: &mut [u8])
     ensures taken { TakesImage image.old (length image.old) (answer_line (record_step image.old []).answer) image.new result.taken result.read (is_ok result.written) }
     ensures printed { length image.old < 36832 → OnOk result.written (Appends (O.contents output.old) (O.contents output.new) (answer_line (record_step image.old []).answer)) }
 {
-    if image.len() < 36832 {
+    if image.len() < image::LENGTH {
         let written = print_answer(output, image, &[]);
         return TakenRecords {
             taken: 0,
@@ -149,7 +150,7 @@ pub struct Run {
 pub fn main_loop<I: Read, O: Write>(input: &mut I, output: &mut O) -> Run
     ensures { Runs result.image_read result.records.taken result.records.read (is_ok result.records.written) }
 {
-    let mut image = [0u8; 36832];
+    let mut image = [0u8; image::LENGTH];
     let image_read = streams::read_full(input, &mut image);
     let records = run_image(input, output, &mut image[..image_read]);
     Run {

@@ -1,7 +1,7 @@
 -- `all_records` meets its contract. The invariant: the records so far are whole, and the image is the one after them.
 use mathlib.Core.Logic.{inl, inr}
 use mathlib.Core.Path.{◌≡◌, refl, ap, ◌∙◌}
-use Rattle.vault_program.proofs.all_records.Goals.{then-read-lt448-via-then-read-lt448, then-read-lt448-via-else-read-lt448+then-is_err}
+use Rattle.vault_program.proofs.all_records.Goals.{then-read-lt-LENGTH-via-then-read-lt-LENGTH, then-read-lt-LENGTH-via-else-read-lt-LENGTH+then-is_err}
 use native.Mathlib.Omega.{arith}
 use Rattle.std.specs.Prelude.{not}
 use borrow.Author.Rules.{rules}
@@ -14,12 +14,12 @@ loop-taken-init g c = (none_taken _, refl)
 pub returns-then-read-eq0 : goal.returns-then-read-eq0
 returns-then-read-eq0 g c = no_more c.loop-taken.invariant.0 c.next_record-read.ensures.answered.0 (omega arith)
 
-pub returns-then-read-lt448 : goal.returns-then-read-lt448
-returns-then-read-lt448 g c =
+pub returns-then-read-lt-LENGTH : goal.returns-then-read-lt-LENGTH
+returns-then-read-lt-LENGTH g c =
     last_taken c.loop-taken.invariant.0 c.next_record-read.ensures.answered.0 (omega arith)
-    (elim c.then-read-lt448.branch [
-      | then-read-lt448-via-then-read-lt448 w ↦ inl w.if-read-lt448.true
-      | then-read-lt448-via-else-read-lt448+then-is_err w ↦ inr (w.is_err.ensures.negation ∙ ap not w.if-is_err.true)
+    (elim c.then-read-lt-LENGTH.branch [
+      | then-read-lt-LENGTH-via-then-read-lt-LENGTH w ↦ inl w.if-read-lt-LENGTH.true
+      | then-read-lt-LENGTH-via-else-read-lt-LENGTH+then-is_err w ↦ inr (w.is_err.ensures.negation ∙ ap not w.if-is_err.true)
     ])
 
 pub loop-taken-preserved : goal.loop-taken-preserved

@@ -3,5 +3,5 @@ use native.Mathlib.Omega.{arith}
 use Rattle.vault_program.proofs.Taken.{taken_none}
 use Rattle.vault_program.proofs.run_image.Goals as goal
 
-pub returns-then-image-lt36832-clause-taken : goal.returns-then-image-lt36832-clause-taken
-returns-then-image-lt36832-clause-taken g c = taken_none _ (omega arith) c.print_answer-written.ensures.carried
+pub returns-then-image-lt-LENGTH-clause-taken : goal.returns-then-image-lt-LENGTH-clause-taken
+returns-then-image-lt-LENGTH-clause-taken g c = taken_none _ (omega arith) c.print_answer-written.ensures.carried
