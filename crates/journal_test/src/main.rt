@@ -31,6 +31,7 @@ fn check_image(image: &[u8]) -> Result<(), Refusal>
     refusal::refuse_if(image.len() != 64, Refusal::InvalidImage)
 }
 
+// The four calls, one function each: as a closure, the journal's function would be asked for by a clause of its own and be named as it is here.
 fn begin(journal: &mut [u8]) -> Result<(), Refusal> {
     check_journal(journal)?;
     journal::begin(journal)

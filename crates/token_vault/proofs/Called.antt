@@ -2,7 +2,7 @@
 use mathlib.Core.Path.{◌≡◌, refl, sym, ap, ◌∙◌}
 use mathlib.Core.Bool.{Bool, true, false, not}
 use mathlib.Core.List.{List, []}
-use Prim.Native.Nat.{ℕ, zero, suc, ◌+◌, ◌<◌}
+use Prim.Native.Nat.{ℕ, zero, suc, ◌+◌}
 use native.Mathlib.Nat.{add-zero}
 use native.Mathlib.Decide.{ℕ_discrete}
 use native.Mathlib.Omega.{arith}
@@ -20,9 +20,8 @@ use Rattle.journal.specs.Step.{vault, reply, blank, lent, operated, begun, commi
 use Rattle.outcome.specs.Outcome.{Answer, value_of, count_of, Refuses, Does, Views}
 use Rattle.events.specs.Event.{event_buffer, buffer_number}
 use Rattle.events.specs.Buffer.{buffer_none}
-use Rattle.record.specs.Form.{is_view, form_number, reads_token, reads_caller}
-use Rattle.record.specs.Head.{HeadOf, view_is_view, other_is_no_view, head_token, head_caller}
-use Rattle.record.specs.Views.{view_number}
+use Rattle.record.specs.Form.{is_view, form_number}
+use Rattle.record.specs.Head.{HeadOf, view_is_view, other_is_no_view}
 use Rattle.record.specs.declared.Head.{Head}
 use Rattle.record.specs.declared.operation.Operation.TheVariants.{View}
 use Rattle.record.specs.Record.{operation_of}
@@ -30,12 +29,11 @@ use Rattle.image.specs.Layout.{cells}
 use Rattle.image.specs.Good.{good_image}
 use Rattle.storage.specs.Facts.{facts}
 use Rattle.amount.specs.Biased.{bias}
-use Rattle.fields.specs.Rules.{pick, link_at_lem}
+use Rattle.fields.specs.Rules.{pick, verdict, link_at_lem}
 use Rattle.operations.specs.Operations.{outcome_of, view_outcome}
 use Rattle.operations.specs.Laws.{viewed}
 use Rattle.operations.proofs.Silent.{view_silent}
 use Rattle.std.specs.Result.{is_err}
-use Rattle.token_vault.proofs.Accepted.{form_zero}
 use Rattle.token_vault.specs.Public.{JournalIs, Replies, Answers, Tries, state_number, kept_number, kept_image, kept_journal, Keeps}
 use Rattle.token_vault.specs.Vault.{call_number, by_number, by_form, op, view, vault_step}
 
@@ -64,10 +62,13 @@ head_view r h v f e = rw (← f.operation, e) (view_is_view v)
 pub head_no_view : (r : List ℕ) (h : Head) → HeadOf r h → ((v : _) → h.operation ≡ View v → ⊥) → is_view (operation_of r) ≡ false
 head_no_view r h f n = rw (← f.operation) (other_is_no_view h.operation n)
 
--- what `look` asks of the token and the account
-pub head_fields : (r e : List ℕ) (h : Head) (v : _) → 0 ≡ call_number r e → HeadOf r h → h.operation ≡ View v
-    → (reads_token (view_number v) ≡ true → h.token < 64) × (reads_caller (view_number v) ≡ true → h.caller < 64)
-head_fields r e h v z f i = let y = form_zero r e (sym z) in (head_token r h (View v) y f i, head_caller r h (View v) y f i)
+buffer_passed : (e : List ℕ) → length e ≡ 896 → buffer_number e ≡ 0
+unfolding buffer_number verdict
+buffer_passed e h = rw h
+
+-- a record of good form and a buffer of its length
+pub call_zero : (r e : List ℕ) → form_number r ≡ 0 → length e ≡ 896 → call_number r e ≡ 0
+call_zero r e z h = form_passed r e refl z refl (buffer_passed e h)
 
 -- ---- the operation's own number
 module _ (l r e : List ℕ) (z : call_number r e ≡ 0) where
@@ -100,18 +101,21 @@ module _ (l r e : List ℕ) (z : call_number r e ≡ 0) where
   own_image q = rw (op_is, q)
 
 -- a view's answer
-pub looked : (l r e : List ℕ) (h : Head) (v : _) (a : Answer) {w : List ℕ} → call_number r e ≡ 0 → HeadOf r h → h.operation ≡ View v → Views (view_outcome v l h.token h.caller) a → w ≡ event_buffer []
+pub looked : (l r e : List ℕ) (h : Head) (v : _) (a : Answer) {w : List ℕ} → form_number r ≡ 0 → length e ≡ 896 → HeadOf r h → h.operation ≡ View v → Views (view_outcome v l h.token.number h.caller.number) a → w ≡ event_buffer []
     → Answers (op l r e).answer a w
-looked l r e h v a {w} z f i d q = go a (rw (viewed l r h v f i) at d)
+looked l r e h v a {w} z b f i d q = go a (rw (viewed l r h v z f i) at d)
   where
     go : (a : Answer) → Views (outcome_of l r) a → Answers (op l r e).answer a w
-    go (Err k) d = own_refused l r e z d.numbered (some_number k) (refl, refl, refl) q
+    go (Err k) d = own_refused l r e (call_zero r e z b) d.numbered (some_number k) (refl, refl, refl) q
     go (Ok m) d =
         let s = view_silent l r (head_view r h v f i) in
-        own_done l r e z (sym d.numbered) d.numbered d.valued (d.counted ∙ sym (ap length s)) (q ∙ sym (ap event_buffer s))
+        own_done l r e (call_zero r e z b) (sym d.numbered) d.numbered d.valued (d.counted ∙ sym (ap length s)) (q ∙ sym (ap event_buffer s))
 
 -- an operation's, on a copy of the image
-module _ (l r e : List ℕ) (z : call_number r e ≡ 0) where
+module _ (l r e : List ℕ) (f : form_number r ≡ 0) (b : length e ≡ 896) where
+  z : call_number r e ≡ 0
+  z = call_zero r e f b
+
   pub tried : (a : Answer) {m v : List ℕ} → is_err a ≡ false → Does (outcome_of l r) a m v → Tries (op l r e) a m v
   tried (Ok x) t d =
       let q = sym d.numbered in

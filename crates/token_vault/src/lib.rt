@@ -1,13 +1,11 @@
 // The token vault: its public calls. Any bytes of any length get an answer.
 #![tactic(auto, unfolding(fields::specs::Rules::chain, fields::specs::Rules::or_else, crate::specs::Public::state_number, crate::specs::Public::kept_number, crate::specs::Public::kept_image, crate::specs::Public::kept_journal, crate::specs::Vault::call_number), using(crate::proofs::Accepted::form_zero, crate::proofs::Called::good_over))]
 
-ghost use Rattle.std.specs.Prelude.{◌≡◌, ◌<◌, true, false, [], IfOk};
+ghost use Rattle.std.specs.Prelude.{◌≡◌, true, false, [], IfOk};
 ghost use Rattle.events.specs.Event.{event_buffer};
 ghost use Rattle.image.specs.Layout.{cells};
 ghost use Rattle.outcome.specs.Outcome.{Views};
 ghost use Rattle.storage.specs.Facts.{Good};
-ghost use Rattle.record.specs.Form.{reads_caller, reads_token};
-ghost use Rattle.record.specs.Views.{view_number};
 ghost use Rattle.operations.specs.Operations.{view_outcome};
 ghost use Rattle.journal.specs.Calls.{Call};
 ghost use Rattle.journal.specs.Journal.{good_journal};
@@ -30,8 +28,8 @@ const CELLS: usize = 2302;
 
 // A view of a good image, with the token and the account of a record: the event buffer is blank.
 fn run_view(image: &Image, view: View, head: Head, events: &mut Buffer) -> Answer
-    requires { Good image.now × (reads_token (view_number view) ≡ true → head.token < 64) × (reads_caller (view_number view) ≡ true → head.caller < 64) }
-    ensures { Views (view_outcome view image.now head.token head.caller) result × (events.new ≡ event_buffer []) }
+    requires { Good image.now }
+    ensures { Views (view_outcome view image.now head.token.number head.caller.number) result × (events.new ≡ event_buffer []) }
 {
     events::clear_events(events);
     operations::look(image, view, head)
@@ -39,10 +37,9 @@ fn run_view(image: &Image, view: View, head: Head, events: &mut Buffer) -> Answe
 
 // An operation on good bytes, on a copy of the image.
 fn try_operation(copy: &mut Image, parsed: Parsed<'_>, events: &mut Buffer) -> Answer
-    requires { Good copy.old × (call_number parsed.rec.now events.old ≡ 0) }
+    requires { Good copy.old }
     ensures { Tries (op copy.old parsed.entry.rec.now events.old) result copy.new events.new }
 {
-    events::clear_events(events);
     let answer = operations::operate(copy, parsed, events);
     if answer.is_err() {
         events::clear_events(events);
@@ -77,7 +74,7 @@ fn run_operation(
     parsed: Parsed<'_>,
     events: &mut Buffer,
 ) -> Answer
-    requires { Good image.old × (good_journal cells journal.old ≡ true) × (call_number parsed.rec.now events.old ≡ 0) }
+    requires { Good image.old × (good_journal cells journal.old ≡ true) }
     ensures { Replies (operated cells false (vault image.old journal.old) (op image.old parsed.entry.rec.now events.old)) result events.new image.new journal.new }
 {
     let mut copy = *image;
@@ -134,9 +131,9 @@ pub fn call_without_journal(image: &mut [u8], record: &[u8], events: &mut [u8]) 
 }
 
 // A view reads the image, any other operation runs on a copy of it.
-#[tactic(auto, using(crate::proofs::Accepted::form_zero, record::specs::Head::head_token, record::specs::Head::head_caller, crate::proofs::Called::looked))]
+#[tactic(auto, using(crate::proofs::Called::looked))]
 fn preview_operation(image: &Image, parsed: Parsed<'_>, events: &mut Buffer) -> Answer
-    requires { Good image.now × (call_number parsed.rec.now events.old ≡ 0) }
+    requires { Good image.now }
     ensures { Answers (op image.now parsed.entry.rec.now events.old).answer result events.new }
 {
     match parsed.head.operation {

@@ -1,8 +1,8 @@
 -- `token_vault::call` meets its contract.
 use Rattle.journal.specs.Calls.{operation}
 use Rattle.storage.specs.Facts.{facts}
-use Rattle.token_vault.proofs.Called.{stops, replies, good_state, bad_state, bad_call, view_step, operated_is, looked, head_view, head_no_view, head_fields}
-use Rattle.token_vault.proofs.Accepted.{call_long}
+use Rattle.token_vault.proofs.Called.{stops, replies, good_state, bad_state, bad_call, view_step, operated_is, looked, head_view, head_no_view}
+use Rattle.token_vault.proofs.Accepted.{call_long, form_zero}
 use Rattle.refusal.specs.Laws.{some_number}
 use Rattle.outcome.specs.Outcome.{silent}
 use mathlib.Core.Path.{refl, sym}
@@ -29,11 +29,8 @@ unwrap-events-requires c = c.as_mut_array-2.ensures.variant.1 (call_long _ _ (sy
 
 pub run_view-requires : goal.run_view-requires
 run_view-requires c =
-    let x = c.args in
     let i = rw c.unwrap-image.ensures at c.as_mut_array.ensures in
-    let h = c.in_ok-parsed.ensures in
-    let f = head_fields x.«record».now x.events.now _ c.in-View.view h.number (rw h.parsed at c.in_ok-parsed.parsed.read) c.in-View.is in
-    (rw i.cases.same (facts _ (good_state _ _ c.good_image-is_image_good.ensures c.in_ok-state_check.ensures refl).0), f.0, f.1)
+    rw i.cases.same (facts _ (good_state _ _ c.good_image-is_image_good.ensures c.in_ok-state_check.ensures refl).0)
 
 pub returns-in-View : goal.returns-in-View
 returns-in-View c =
@@ -44,14 +41,13 @@ returns-in-View c =
     let w = rw i.cases.same at c.run_view.ensures in
     rw i.cases.same
     (replies (view_step x.image.now x.journal.now x.«record».now x.events.now g k (head_view x.«record».now c.in_ok-parsed.parsed.head c.in-View.view (rw h.parsed at c.in_ok-parsed.parsed.read) c.in-View.is))
-    (looked x.image.now x.«record».now x.events.now c.in_ok-parsed.parsed.head c.in-View.view _ (sym h.number) (rw h.parsed at c.in_ok-parsed.parsed.read) c.in-View.is w.0 w.1))
+    (looked x.image.now x.«record».now x.events.now c.in_ok-parsed.parsed.head c.in-View.view _ (form_zero _ _ (sym h.number)) (call_long _ _ (sym h.number)).1 (rw h.parsed at c.in_ok-parsed.parsed.read) c.in-View.is w.0 w.1))
 
 pub run_operation-requires : goal.run_operation-requires
 run_operation-requires c =
     let (g, k) = good_state _ _ c.good_image-is_image_good.ensures c.in_ok-state_check.ensures refl in
     let i = rw c.unwrap-image.ensures at c.as_mut_array.ensures in
-    let e = rw c.unwrap-events.ensures at c.as_mut_array-2.ensures in
-    rw (i.cases.same, e.cases.same, c.in_ok-parsed.ensures.parsed) (facts _ g, k, sym c.in_ok-parsed.ensures.number)
+    rw i.cases.same (facts _ g, k)
 
 pub returns : goal.returns
 returns c =

@@ -28,9 +28,7 @@ unwrap-events-requires c = c.as_mut_array.ensures.variant.1 (call_long _ _ (sym 
 pub preview_operation-requires : goal.preview_operation-requires
 preview_operation-requires c =
     let i = rw c.unwrap-image.ensures at c.as_array.ensures in
-    let e = rw c.unwrap-events.ensures at c.as_mut_array.ensures in
-    rw (i.cases.same, e.cases.same, c.in_ok-parsed.ensures.parsed)
-    (facts _ (sym c.good_image.ensures ∙ good_pick _ c.in_ok-refuse_if.ensures), sym c.in_ok-parsed.ensures.number)
+    rw i.cases.same (facts _ (sym c.good_image.ensures ∙ good_pick _ c.in_ok-refuse_if.ensures))
 
 pub returns : goal.returns
 returns c =
