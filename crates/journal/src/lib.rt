@@ -65,8 +65,8 @@ fn good_length(len: usize) -> bool
     len % 24 == 0 && 48 <= len && len <= 48024
 }
 
-#[tactic(auto, unfolding(crate::specs::Scan::scan_head), using(crate::proofs::Written::known_tests, fields::specs::Zeros::zeros_part))]
 // Counts, the open byte and the unused bytes of the head.
+#[tactic(auto, unfolding(crate::specs::Scan::scan_head), using(crate::proofs::Written::known_tests, fields::specs::Zeros::zeros_part))]
 fn good_head(journal: &[u8]) -> bool
     requires { 24 ≤ length journal.now }
     ensures { result ≡ scan_head journal.now }
@@ -79,8 +79,8 @@ fn good_head(journal: &[u8]) -> bool
     counted & filled & closed
 }
 
-#[tactic(auto, unfolding(crate::specs::Scan::in_order_of), using(crate::proofs::Written::known_tests))]
 // Whether an entry may stand behind one of call `last` whose next cell would be `next`.
+#[tactic(auto, unfolding(crate::specs::Scan::in_order_of), using(crate::proofs::Written::known_tests))]
 fn in_order(entry: EntryHead, cells: usize, calls: u16, last: u16, next: usize) -> bool
     ensures { result ≡ in_order_of cells calls last next entry.cell entry.call }
 {
@@ -149,8 +149,8 @@ pub fn commit(journal: &mut [u8]) -> Result<(), Refusal>
     Ok(())
 }
 
-#[tactic(auto, using(crate::proofs::Written::good_room, crate::proofs::Written::good_short))]
 // Puts the entries behind the first `from` back into the image, the last one first.
+#[tactic(auto, using(crate::proofs::Written::good_room, crate::proofs::Written::good_short))]
 fn put_back(image: &mut [u8], journal: &[u8], cells: usize, from: usize, count: usize)
     requires good_over { GoodOver cells image.old journal.now }
     requires from_le_count { (from ≤ count) × (count ≡ length (contents_of journal.now).entries) }
@@ -163,8 +163,8 @@ fn put_back(image: &mut [u8], journal: &[u8], cells: usize, from: usize, count: 
     }
 }
 
-#[tactic(auto, using(crate::proofs::Written::good_room, crate::proofs::Written::good_few))]
 // How many entries are of calls before the last.
+#[tactic(auto, using(crate::proofs::Written::good_room, crate::proofs::Written::good_few))]
 fn earlier_entries(journal: &[u8], counts: Counts) -> usize
     requires good_journal { GoodJournal journal.now }
     requires counts_of { (counts.calls ≡ (contents_of journal.now).calls) × (counts.entries ≡ length (contents_of journal.now).entries) }
