@@ -223,18 +223,20 @@ impl Event {
             _ => Amount::ZERO,
         }
     }
+}
+
+impl From<Event> for Fields {
+    ghost from_gives = { λ event fields. written_fields fields ≡ fields_of event };
 
     #[tactic(auto, unfolding(crate::specs::Event::written_fields))]
-    fn fields(self) -> Fields
-        ensures { written_fields result ≡ fields_of self }
-    {
-        let (kind, first, second) = self.head();
+    fn from(event: Event) -> Fields {
+        let (kind, first, second) = event.head();
         Fields {
             kind,
             first,
             second,
-            yes: self.yes(),
-            numbers: [self.number0(), self.number1(), self.number2()],
+            yes: event.yes(),
+            numbers: [event.number0(), event.number1(), event.number2()],
         }
     }
 }
@@ -253,16 +255,16 @@ pub fn put_event(events: &mut Buffer, i: usize, event: Event)
     requires { i < 16 }
     ensures { events.new ≡ put_event events.old i (fields_of event) }
 {
-    put_fields(events, i, event.fields());
+    put_fields(events, i, Fields::from(event));
 }
 
-// The buffer of this event alone.
+// The buffer of these fields alone.
 #[tactic(auto, using(crate::specs::Buffer::written_one))]
-pub fn write_one(events: &mut Buffer, event: Event)
-    ensures { events.new ≡ event_buffer (fields_of event ∷ []) }
+pub fn write_one(events: &mut Buffer, fields: Fields)
+    ensures { events.new ≡ event_buffer (written_fields fields ∷ []) }
 {
     clear_events(events);
-    put_event(events, 0, event);
+    put_fields(events, 0, fields);
 }
 
 #[tactic(auto, using(crate::specs::Buffer::buffer_cleared))]

@@ -3,12 +3,12 @@
 
 ghost use Rattle.std.specs.Prelude.{◌≡◌, [], ◌∷◌};
 ghost use Rattle.amount.specs.Biased.{bias, biased};
-ghost use Rattle.events.specs.Event.{event_buffer};
+ghost use Rattle.events.specs.Event.{event_buffer, written_fields};
 ghost use Rattle.events.specs.Kinds.{fields_of};
 ghost use Rattle.outcome.specs.Outcome.{Announced};
 
 use amount::Amount;
-use events::{Buffer, Event};
+use events::{Buffer, Event, Fields};
 use refusal::Refusal;
 
 #[derive(Clone, Copy, Debug, PartialEq, Eq)]
@@ -60,6 +60,13 @@ pub fn announce(events: &mut Buffer, event: Event) -> Done
 pub fn announce_value(events: &mut Buffer, event: Event, value: Amount) -> Done
     ensures { (biased result.value ≡ biased value) × (result.events ≡ 1) × (events.new ≡ event_buffer (fields_of event ∷ [])) }
 {
-    events::write_one(events, event);
+    announce_fields(events, Fields::from(event), value)
+}
+
+// The same of fields of any kind.
+pub fn announce_fields(events: &mut Buffer, fields: Fields, value: Amount) -> Done
+    ensures { (biased result.value ≡ biased value) × (result.events ≡ 1) × (events.new ≡ event_buffer (written_fields fields ∷ [])) }
+{
+    events::write_one(events, fields);
     Done { value, events: 1 }
 }
