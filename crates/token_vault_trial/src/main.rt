@@ -128,6 +128,7 @@ impl Records {
         ensures piece { result.now ≡ records_from self.old.last self.old.next n }
         ensures rest { (self.new.last ≡ reached_from self.old.last n) × (self.new.next ≡ self.old.next + n) × (self.new.left + n ≡ self.old.left) }
     {
+        // By `as`: there is no `From` of a `u64` for a length.
         let piece = &mut buffer[..448 * n as usize];
         let last = trial_records::trial_records(self.last, self.next, piece).unwrap();
         *self = Records {

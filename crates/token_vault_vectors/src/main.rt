@@ -244,6 +244,7 @@ impl From<Fault> for TakenCalls {
 }
 
 // A call whose line was not written was taken.
+// Image and journal stay two slices: of a struct that holds them nothing says at its end that it still holds those that were lent, so that each contract would have to. Input and output stay two: most functions have one of them, and contracts speak of the output alone.
 fn all_calls<I: Read, O: Write>(
     input: &mut I,
     output: &mut O,
@@ -305,6 +306,7 @@ impl ListHead {
         let Ok(bytes) = <&[u8; 16]>::try_from(bytes) else {
             return Err(Fault::HeadCut);
         };
+        // By `as`: there is no `From` of a `u32` for a length.
         let image_length = fields::get32(bytes, 0) as usize;
         let journal_length = fields::get32(bytes, 4) as usize;
         if image_length > 36848 {
