@@ -141,14 +141,14 @@ struct Reading<'a> {
 }
 
 impl Reading<'_> {
-    #[tactic(auto, unfolding(crate::specs::Form::head_exceeds), using(fields::specs::Logic::or_is, fields::specs::Logic::or_assoc, crate::proofs::Bytes::byte_read))]
+    #[tactic(auto, unfolding(crate::specs::Form::head_exceeds), using(fields::specs::Logic::or_is, fields::specs::Logic::or_assoc, fields::specs::Logic::true_and, fields::specs::Logic::false_and, crate::proofs::Bytes::byte_read))]
     fn head_exceeds(self) -> bool
         ensures { result ≡ head_exceeds self.entry.rec.now }
     {
-        let a = exceeds(self.operation.reads_caller(), self.rec[CALLER], 63);
-        let b = exceeds(self.operation.reads_token(), self.rec[TOKEN], 63);
-        let c = exceeds(self.operation.reads_other(), self.rec[OTHER], 63);
-        let d = exceeds(self.operation.reads_flag(), self.rec[FLAG], 1);
+        let a = self.operation.reads_caller() && self.rec[CALLER] > 63;
+        let b = self.operation.reads_token() && self.rec[TOKEN] > 63;
+        let c = self.operation.reads_other() && self.rec[OTHER] > 63;
+        let d = self.operation.reads_flag() && self.rec[FLAG] > 1;
         a | b | c | d
     }
 
@@ -187,14 +187,6 @@ fn address(byte: u8) -> Address
     ensures { byte < 64 → result.number ≡ byte }
 {
     Address::new(byte).unwrap_or(Address { number: 0 })
-}
-
-// Whether a field holds more than the most that it may, where it is read.
-#[tactic(auto, using(fields::specs::Logic::true_and, fields::specs::Logic::false_and))]
-fn exceeds(read: bool, value: u8, most: u8) -> bool
-    ensures { result ≡ read and ltb most value }
-{
-    read && value > most
 }
 
 // A record of good form, and 32 of any other bytes.
