@@ -4,7 +4,7 @@ use Rattle.std.proofs.Common.{ap, sym, ◌∙◌, arith}
 use Rattle.std.specs.Array.{IsWholeChunk}
 use borrow.Author.Tests.{ltb-true, ltb-false}
 use Rattle.fields.specs.Bytes.{bytes_from}
-use Rattle.fields.specs.Rules.{stop_at}
+use Rattle.fields.specs.Rules.{pick, stop_at}
 use Rattle.record.specs.declared.operation.Operation.{Operation}
 use Rattle.record.specs.Record.{operation_of}
 use Rattle.record.specs.Numbers.{operation_number, number_bounds}
@@ -13,6 +13,11 @@ use Rattle.record.specs.Form.{head_exceeds, items_exceed, form_number}
 pub other_length : (s : List ℕ) → (length s ≡ 448 → ⊥) → 32 ≡ form_number s
 unfolding form_number
 other_length s h = stop_at _ 0 _ h refl
+
+-- where a test did not refuse
+pub passed_if : (t : Bool) → ◌≡◌ {A = ℕ} 0 (pick t 32 0) → t ≡ false
+passed_if true h = absurd (omega (arith, h))
+passed_if false h = refl
 
 -- r is the slice s as an array
 module _ (s r : List ℕ) (w : IsWholeChunk s r 448) where

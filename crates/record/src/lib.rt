@@ -37,7 +37,8 @@ const ITEMS: usize = 64;
 
 const ITEM_LENGTH: usize = 24;
 
-// The fields before the items. An operation that reads a time to live finds it where others have the amount. Where a byte is no address, an operation that reads it is refused with 32, and of others the address is 0.
+// The fields before the items; a time to live stands where others have the amount. Where an operation does not read a byte that is no address,
+// the address is 0: an `Option` would be asked again by the operations that are known to read it.
 #[derive(Clone, Copy, Debug, PartialEq, Eq)]
 pub struct Head {
     pub operation: Operation,
@@ -70,7 +71,7 @@ pub struct Items<'a> {
     pub ghost addressed: { (j : ℕ) → j < count → item_address rec.now j < 64 },
 }
 
-// By place and not by an iterator: a batch writes the event of an item at the item's place.
+// By place and not by an iterator: an item's place is its event's, and the clauses speak of the item at a place.
 impl Items<'_> {
     pub fn get(self, i: usize) -> Item
         requires { i < self.count }
@@ -200,9 +201,8 @@ pub fn parse(rec: &[u8]) -> Result<Parsed<'_>, Refusal>
     };
     let operation = Operation::try_from(rec[0])?;
     let reading = Reading { rec, operation };
-    if reading.head_exceeds() || reading.items_exceed() {
-        return Err(Refusal::InvalidRecord);
-    }
+    refusal::refuse_if(reading.head_exceeds(), Refusal::InvalidRecord)?;
+    refusal::refuse_if(reading.items_exceed(), Refusal::InvalidRecord)?;
     Ok(Parsed {
         rec,
         head: reading.head(),

@@ -1,7 +1,7 @@
 -- Refusals among numbers: none is 0, so a refusal ends a list of checks; and what `?` passes on.
 use Rattle.std.specs.Prelude.{Bool, true, false, not, is_ok, refl, OnOk, ◌≡◌, List, [], ◌∷◌, ℕ, zero, suc, Result, Ok, Err, IsErr, IsErrAnd}
 use Rattle.std.proofs.Common.{arith, ap, sym, ◌∙◌}
-use Rattle.fields.specs.Rules.{chain, Links, link_at, link_at_lem}
+use Rattle.fields.specs.Rules.{pick, chain, Links, link_at, link_at_lem}
 use Rattle.refusal.specs.declared.Refusal.{Refusal}
 use Rattle.refusal.specs.declared.Refusal.TheVariants.{NotInitialized, AlreadyInitialized, NotAuthorized, InvalidAmount, DepositExceedsMax, LimitExceeded, ArithmeticOverflow, ContractPaused, InvalidToken, TokenNotApproved, VaultBalanceChanged, DepositTransferFailed, WithdrawTransferFailed, InvalidParam, NoPendingOwner, NotPendingOwner, PendingOwnerExpired, AlreadyPaused, NotPaused, NoMigrationProposed, TimelockNotExpired, SignatureMissing, TokenCallFailed, InvalidImage, InvalidJournal, InvalidRecord, InvalidEventBuffer, JournalFull, NoTransaction, TransactionOpen, NothingToUndo, InvalidTollBounds}
 use Rattle.refusal.specs.Numbers.{number_of, code}
@@ -77,3 +77,8 @@ code_is_err (Err y) e h z = some_number y z
 pub code_is_ok : {T : Type 0} {t : Bool} (r : Result T Refusal) → is_ok r ≡ not t → t ≡ false → code r ≡ 0
 code_is_ok (Ok x) e h = refl
 code_is_ok (Err y) e h = absurd (unlike (sym (e ∙ ap not h)))
+
+-- what `refuse_if` refused with k
+pub refused_if : (e : Refusal) (t : Bool) {k : ℕ} → number_of e ≡ pick t k 0 → (t ≡ true) × (number_of e ≡ k)
+refused_if e true h = (refl, h)
+refused_if e false h = absurd (some_number e h)

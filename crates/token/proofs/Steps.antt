@@ -3,11 +3,8 @@ use mathlib.Core.Path.{◌≡◌, refl, sym}
 use mathlib.Core.List.{List}
 use Prim.Native.Nat.{ℕ, ◌+◌, ◌-◌, ◌≤◌, ◌<◌}
 use native.Mathlib.Omega.{arith}
-use Rattle.std.specs.Prelude.{Option, Some, None, Bool, true, false}
-use Rattle.fields.specs.Rules.{pick, stop_at}
-use Rattle.refusal.specs.declared.Refusal.{Refusal}
-use Rattle.refusal.specs.Numbers.{number_of}
-use Rattle.refusal.specs.Laws.{some_number}
+use Rattle.std.specs.Prelude.{Option, Some, None}
+use Rattle.fields.specs.Rules.{stop_at}
 use Rattle.storage.specs.Facts.{Good}
 use Rattle.image.specs.Layout.{slot, holding_at, holdings_at, toll, holding}
 use Rattle.amount.specs.declared.Amount.{Amount}
@@ -19,11 +16,6 @@ use Rattle.token.specs.Laws.{transfer_done}
 
 pub toll_range : (l : List ℕ) (t : ℕ) → Good l → t < 64 → bias ≤ toll l (slot t)
 toll_range l t g h = (g.tokens (slot t) (omega arith)).not_below
-
--- what `refuse_if` refused with k
-pub refused_if : (e : Refusal) (t : Bool) {k : ℕ} → number_of e ≡ pick t k 0 → (t ≡ true) × (number_of e ≡ k)
-refused_if e true h = (refl, h)
-refused_if e false h = absurd (some_number e h)
 
 -- ---- the sender is left with m
 module _ (l : List ℕ) (t from to m : ℕ) where

@@ -108,7 +108,7 @@ struct Moved {
     received: Amount,
 }
 
-#[tactic(auto, unfolding(fields::specs::Rules::verdict, crate::specs::Token::transfer_number), using(amount::specs::Order::less_is, crate::proofs::Steps::refused_if, crate::proofs::Steps::too_much, crate::proofs::Steps::is_room, crate::proofs::Steps::sum_received))]
+#[tactic(auto, unfolding(fields::specs::Rules::verdict, crate::specs::Token::transfer_number), using(amount::specs::Order::less_is, refusal::specs::Laws::refused_if, crate::proofs::Steps::too_much, crate::proofs::Steps::is_room, crate::proofs::Steps::sum_received))]
 fn transfer_check(
     img: &Image,
     t: usize,
