@@ -1,28 +1,61 @@
--- A view by its name gives what it gives by its number, and it leaves the image and announces nothing.
+-- An operation by its name gives what it gives by its number; a view leaves the image and announces nothing.
 use Rattle.std.specs.Prelude.{◌≡◌, refl, List, [], ℕ}
 use Rattle.std.proofs.Common.{sym, ◌∙◌, ap}
 use Rattle.events.specs.Event.{event_buffer}
 use Rattle.outcome.specs.Outcome.{Does, Views, Answer, views}
 use Rattle.record.specs.declared.Head.{Head}
-use Rattle.record.specs.declared.operation.Operation.TheVariants.{View}
+use Rattle.record.specs.declared.operation.Operation.{Operation}
+use Rattle.record.specs.declared.operation.Operation.TheVariants.{Initialize, Deposit, DepositWithFee, BatchDeposit, Withdraw, WithdrawBatch, DepositToken, WithdrawToken, DepositWithFailureReport, SetOperatorWithdrawLimit, SetLimit, SetTokenMaxLimit, SetOperator, RevokeOperator, ProposeOwner, AcceptOwner, SetOwnerProposalTtl, Pause, Unpause, ApproveToken, InitiateEmergencyMigration, ExecuteEmergencyMigration, CancelEmergencyMigration, View, OutsideMove, Freeze}
 use Rattle.record.specs.declared.operation.View.TheVariants.{Balance, EffectiveWithdrawLimit, GetTokenAccountBalance, IsTokenApproved, IsTokenCompliant}
-use Rattle.record.specs.Head.{HeadOf}
+use Rattle.record.specs.Form.{reads_caller, reads_token, reads_other, reads_flag, member, form_number}
+use Rattle.record.specs.Head.{HeadOf, head_caller, head_token, head_other, head_flag}
 use Rattle.record.specs.Numbers.{operation_number}
-use Rattle.record.specs.Record.{operation_of, token_of, caller_of}
-use Rattle.record.specs.Views.{view_number}
+use Rattle.record.specs.Record.{operation_of}
 use Rattle.views.specs.Views.{balance_outcome, effective_outcome, account_outcome, approved_outcome, compliant_outcome}
-use Rattle.operations.specs.Operations.{outcome_of, view_outcome}
+use Rattle.operations.specs.Operations.{outcome_of, outcome_by, view_outcome}
 
-pub viewed : (l r : List ℕ) (h : Head) (v : _) → HeadOf r h → h.operation ≡ View v → view_outcome v l h.token h.caller ≡ outcome_of l r
-unfolding outcome_of
-viewed l r h v f e = rw (f.token, f.caller) (go v (sym (ap operation_number e) ∙ f.operation))
+pub named : (l r : List ℕ) (h : Head) (o : Operation) → form_number r ≡ 0 → HeadOf r h → h.operation ≡ o → outcome_by o l r h ≡ outcome_of l r
+unfolding outcome_of reads_caller reads_token reads_other reads_flag member
+named l r h o z f e = go o e (sym (ap operation_number e) ∙ f.operation)
   where
-    go : (v : _) → view_number v ≡ operation_of r → view_outcome v l (token_of r) (caller_of r) ≡ outcome_of l r
-    go Balance e = rw (← e) refl
-    go EffectiveWithdrawLimit e = rw (← e) refl
-    go GetTokenAccountBalance e = rw (← e) refl
-    go IsTokenApproved e = rw (← e) refl
-    go IsTokenCompliant e = rw (← e) refl
+    go : (o : Operation) → h.operation ≡ o → operation_number o ≡ operation_of r → outcome_by o l r h ≡ outcome_of l r
+    go Initialize e n = rw (head_caller r h _ z f e refl, f.signers, head_token r h _ z f e refl, f.amount, ← n) refl
+    go Deposit e n = rw (head_caller r h _ z f e refl, f.signers, f.sequence, f.amount, ← n) refl
+    go DepositWithFee e n = rw (head_caller r h _ z f e refl, f.signers, f.sequence, f.amount, f.fee, ← n) refl
+    go BatchDeposit e n = rw (f.signers, f.sequence, f.item_count, ← n) refl
+    go Withdraw e n = rw (head_caller r h _ z f e refl, f.signers, f.sequence, head_other r h _ z f e refl, f.amount, ← n) refl
+    go WithdrawBatch e n = rw (head_caller r h _ z f e refl, f.signers, f.sequence, f.item_count, ← n) refl
+    go DepositToken e n = rw (head_caller r h _ z f e refl, f.signers, f.sequence, head_token r h _ z f e refl, f.amount, ← n) refl
+    go WithdrawToken e n = rw (head_token r h _ z f e refl, head_caller r h _ z f e refl, f.signers, f.sequence, head_other r h _ z f e refl, f.amount, ← n) refl
+    go DepositWithFailureReport e n = rw (head_caller r h _ z f e refl, f.signers, f.sequence, f.amount, ← n) refl
+    go SetOperatorWithdrawLimit e n = rw (head_caller r h _ z f e refl, f.signers, f.amount, ← n) refl
+    go SetLimit e n = rw (head_caller r h _ z f e refl, f.signers, f.amount, ← n) refl
+    go SetTokenMaxLimit e n = rw (head_caller r h _ z f e refl, head_token r h _ z f e refl, f.signers, f.amount, ← n) refl
+    go SetOperator e n = rw (head_caller r h _ z f e refl, f.signers, head_other r h _ z f e refl, ← n) refl
+    go RevokeOperator e n = rw (head_caller r h _ z f e refl, f.signers, ← n) refl
+    go ProposeOwner e n = rw (head_caller r h _ z f e refl, f.signers, head_other r h _ z f e refl, f.timestamp, ← n) refl
+    go AcceptOwner e n = rw (head_caller r h _ z f e refl, f.signers, f.timestamp, ← n) refl
+    go SetOwnerProposalTtl e n = rw (head_caller r h _ z f e refl, f.signers, f.time_to_live, ← n) refl
+    go Pause e n = rw (head_caller r h _ z f e refl, f.signers, f.timestamp, ← n) refl
+    go Unpause e n = rw (head_caller r h _ z f e refl, f.signers, f.timestamp, ← n) refl
+    go ApproveToken e n = rw (head_caller r h _ z f e refl, f.signers, head_token r h _ z f e refl, head_flag r h _ z f e refl, ← n) refl
+    go InitiateEmergencyMigration e n = rw (head_caller r h _ z f e refl, f.signers, head_other r h _ z f e refl, f.timestamp, ← n) refl
+    go ExecuteEmergencyMigration e n = rw (head_caller r h _ z f e refl, f.signers, f.timestamp, ← n) refl
+    go CancelEmergencyMigration e n = rw (head_caller r h _ z f e refl, f.signers, ← n) refl
+    go OutsideMove e n = rw (head_caller r h _ z f e refl, head_token r h _ z f e refl, head_other r h _ z f e refl, f.amount, ← n) refl
+    go Freeze e n = rw (head_token r h _ z f e refl, head_flag r h _ z f e refl, ← n) refl
+    go (View Balance) e n = rw (← n) refl
+    go (View EffectiveWithdrawLimit) e n = rw (head_caller r h _ z f e refl, ← n) refl
+    go (View GetTokenAccountBalance) e n = rw (head_token r h _ z f e refl, head_caller r h _ z f e refl, ← n) refl
+    go (View IsTokenApproved) e n = rw (head_token r h _ z f e refl, ← n) refl
+    go (View IsTokenCompliant) e n = rw (head_token r h _ z f e refl, ← n) refl
+
+pub operation_does : (l r : List ℕ) (h : Head) (o : Operation) {image events : List ℕ} {x : Answer} → form_number r ≡ 0 → HeadOf r h → h.operation ≡ o → Does (outcome_by o l r h) x image events
+    → Does (outcome_of l r) x image events
+operation_does l r h o z f e d = rw (← named l r h o z f e) d
+
+pub viewed : (l r : List ℕ) (h : Head) (v : _) → form_number r ≡ 0 → HeadOf r h → h.operation ≡ View v → view_outcome v l h.token.number h.caller.number ≡ outcome_of l r
+viewed l r h v z f e = named l r h (View v) z f e
 
 does : {n v : ℕ} {l : List ℕ} {x : Answer} → Views (views n v l) x → Does (views n v l) x l (event_buffer [])
 does d = record { numbered = d.numbered; valued = d.valued; counted = d.counted; changed = λ y. refl; written = λ y. refl }
@@ -35,6 +68,6 @@ views_do GetTokenAccountBalance l t a d = does d
 views_do IsTokenApproved l t a d = does d
 views_do IsTokenCompliant l t a d = does d
 
-pub view_does : (r : List ℕ) (h : Head) (v : _) {l events : List ℕ} {x : Answer} → HeadOf r h → h.operation ≡ View v → events ≡ event_buffer [] → Views (view_outcome v l h.token h.caller) x
+pub view_does : (r : List ℕ) (h : Head) (v : _) {l events : List ℕ} {x : Answer} → form_number r ≡ 0 → HeadOf r h → h.operation ≡ View v → events ≡ event_buffer [] → Views (view_outcome v l h.token.number h.caller.number) x
     → Does (outcome_of l r) x l events
-view_does r h v {l} f e b d = rw (← viewed l r h v f e, b) (views_do v l h.token h.caller d)
+view_does r h v {l} z f e b d = rw (← viewed l r h v z f e, b) (views_do v l h.token.number h.caller.number d)

@@ -1,11 +1,7 @@
 // The operations by their names: `operate` runs any of them, `look` a view alone.
-#![tactic(auto, unfolding(crate::specs::Operations::outcome_of, record::specs::Form::reads_caller, record::specs::Form::reads_token, record::specs::Form::reads_other, record::specs::Form::reads_flag, record::specs::Form::reads_items, record::specs::Form::member), using(record::specs::Head::head_caller, record::specs::Head::head_token, record::specs::Head::head_other, record::specs::Head::head_flag, record::specs::Head::head_count, record::specs::Head::head_item, crate::specs::Laws::view_does, payouts::specs::Laws::items_addressed))]
+#![tactic(auto, unfolding(record::specs::Form::reads_items, record::specs::Form::member), using(crate::specs::Laws::view_does))]
 
-ghost use Rattle.std.specs.Prelude.{◌≡◌, ◌<◌, true, []};
 ghost use Rattle.storage.specs.Facts.{Good};
-ghost use Rattle.record.specs.Form.{reads_caller, reads_token};
-ghost use Rattle.record.specs.Views.{view_number};
-ghost use Rattle.events.specs.Event.{event_buffer};
 ghost use Rattle.outcome.specs.Outcome.{Does, Views};
 ghost use Rattle.operations.specs.Operations.{outcome_of, view_outcome};
 
@@ -20,8 +16,9 @@ use outcome::Answer;
 use record::{Head, Operation, Parsed, View};
 use settings::set_operator_withdraw_limit;
 
+// One arm a call, each to a function with a contract of its own: a match is the plainer table of functions.
 pub fn operate(img: &mut Image, parsed: Parsed<'_>, events: &mut Buffer) -> Answer
-    requires { Good img.old × (events.old ≡ event_buffer []) }
+    requires { Good img.old }
     ensures { Does (outcome_of img.old parsed.entry.rec.now) result img.new events.new }
 {
     let head = parsed.head;
@@ -49,15 +46,18 @@ pub fn operate(img: &mut Image, parsed: Parsed<'_>, events: &mut Buffer) -> Answ
         Operation::InitiateEmergencyMigration => initiate_emergency_migration(img, head, events),
         Operation::ExecuteEmergencyMigration => execute_emergency_migration(img, head, events),
         Operation::CancelEmergencyMigration => cancel_emergency_migration(img, head, events),
-        Operation::View(view) => look(img, view, head),
+        Operation::View(view) => {
+            events::clear_events(events);
+            look(img, view, head)
+        }
         Operation::OutsideMove => moves::outside_move(img, head, events),
         Operation::Freeze => moves::freeze(img, head, events),
     }
 }
 
 pub fn look(img: &Image, view: View, head: Head) -> Answer
-    requires { Good img.now × (reads_token (view_number view) ≡ true → head.token < 64) × (reads_caller (view_number view) ≡ true → head.caller < 64) }
-    ensures { Views (view_outcome view img.now head.token head.caller) result }
+    requires { Good img.now }
+    ensures { Views (view_outcome view img.now head.token.number head.caller.number) result }
 {
     match view {
         View::Balance => views::balance(img),

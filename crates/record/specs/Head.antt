@@ -12,6 +12,7 @@ use Rattle.record.specs.Record.{operation_of, caller_of, token_of, other_of, fla
 use Rattle.record.specs.Form.{reads_caller, reads_token, reads_other, reads_flag, reads_items, is_view, member, form_number}
 use Rattle.record.specs.Laws.{caller_below, token_below, other_below, flag_below, count_below, item_below}
 
+-- an address is that of its byte where the byte is one, as it is of each field that the operation reads
 pub record HeadOf (r : List ℕ) (h : Head) : Type 0 where
   pub operation : operation_number h.operation ≡ operation_of r
   pub caller : caller_of r < 64 → h.caller.number ≡ caller_of r

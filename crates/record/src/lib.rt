@@ -70,6 +70,7 @@ pub struct Items<'a> {
     pub ghost addressed: { (j : ℕ) → j < count → item_address rec.now j < 64 },
 }
 
+// By place and not by an iterator: a batch writes the event of an item at the item's place.
 impl Items<'_> {
     pub fn get(self, i: usize) -> Item
         requires { i < self.count }

@@ -79,6 +79,9 @@ bit_mod x c h =
 pub shifted_one : (k : ℕ) → k < 64 → (1 * 2 ^ k) % 2 ^ 64 ≡ 2 ^ k
 shifted_one k h = shl_exact {a = 1} 1 k 64 (omega arith) (omega arith) ∙ one-mul (2 ^ k)
 
+pub shifted_flag : (k : ℕ) → k < 16 → (1 * 2 ^ k) % 2 ^ 16 ≡ 2 ^ k
+shifted_flag k h = shl_exact {a = 1} 1 k 16 (omega arith) (omega arith) ∙ one-mul (2 ^ k)
+
 pub without_off : (x a : ℕ) → bit x a ≡ 0 → without_bit x a ≡ x
 without_off x a e = rw (e, mul-zero, sub-zero)
 
@@ -98,11 +101,17 @@ or_bit x k =
     (λ z. let a = masked_off x k z in let e = with_off x k z in omega arith)
     (λ o. let a = masked_on x k o in let e = with_on x k o in omega arith)
 
-pub and_not_bit : (x k : ℕ) → x < 2 ^ 64 → k < 64 → bit_and x (2 ^ 64 - 1 - 2 ^ k) ≡ without_bit x k
-and_not_bit x k b h =
-    let rest = and-not 64 (2 ^ k) x (pow_below k 64 h) b in
-    let turned = and_comm x (2 ^ 64 - 1 - 2 ^ k) in
+and_not : (w x k : ℕ) → x < 2 ^ w → k < w → bit_and x (2 ^ w - 1 - 2 ^ k) ≡ without_bit x k
+and_not w x k b h =
+    let rest = and-not w (2 ^ k) x (pow_below k w h) b in
+    let turned = and_comm x (2 ^ w - 1 - 2 ^ k) in
     let mask = and_comm (2 ^ k) x in
-    by_bit (x / 2 ^ k) (bit_and x (2 ^ 64 - 1 - 2 ^ k) ≡ without_bit x k)
+    by_bit (x / 2 ^ k) (bit_and x (2 ^ w - 1 - 2 ^ k) ≡ without_bit x k)
     (λ z. let a = masked_off x k z in let e = without_off x k z in omega arith)
     (λ o. let a = masked_on x k o in let e = without_on x k o in omega arith)
+
+pub and_not_bit : (x k : ℕ) → x < 2 ^ 64 → k < 64 → bit_and x (2 ^ 64 - 1 - 2 ^ k) ≡ without_bit x k
+and_not_bit x k b h = and_not 64 x k b h
+
+pub and_not_flag : (x k : ℕ) → x < 2 ^ 16 → k < 16 → bit_and x (2 ^ 16 - 1 - 2 ^ k) ≡ without_bit x k
+and_not_flag x k b h = and_not 16 x k b h

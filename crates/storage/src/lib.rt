@@ -8,7 +8,7 @@ ghost use Rattle.refusal.specs.Numbers.{code};
 ghost use Rattle.image.specs.Flags.{flag_bit};
 ghost use Rattle.image.specs.Layout.{slot, flags, tracked_count, credit, with_bit, without_bit};
 ghost use Rattle.image.specs.Good.{tracked};
-ghost use Rattle.storage.specs.Facts.{Good, Keys};
+ghost use Rattle.storage.specs.Facts.{Keys};
 ghost use Rattle.storage.specs.Setters.{track_key, set_credit, set_cap, record_balance, snapshot_number};
 
 use amount::Amount;
@@ -74,23 +74,21 @@ pub fn without_bit(set: u64, k: u64) -> u64
     set & !(1 << k)
 }
 
-// This and `clear_flag` differ in the function that they call, which a parameter would name as well. Flags are six bits, so that the cast loses none.
+#[tactic(auto, using(crate::specs::Bits::shifted_flag, crate::specs::Bits::or_bit, image::specs::Flags::flag_below))]
 pub fn set_flag(img: &mut Image, flag: Flag)
-    requires { Good img.old }
     ensures { img.new ≡ put 2 img.old 0 (with_bit (flags img.old) (flag_bit flag)) }
 {
-    let set = u64::from(fields::get16(img, image::FLAGS));
-    let k = u64::from(u8::from(flag));
-    fields::put16(img, image::FLAGS, with_bit(set, k) as u16);
+    let set = fields::get16(img, image::FLAGS);
+    fields::put16(img, image::FLAGS, set | 1 << u8::from(flag));
 }
 
+// `set_flag` and this are the two things done to a bit, by two operators.
+#[tactic(auto, using(crate::specs::Bits::shifted_flag, crate::specs::Bits::and_not_flag, image::specs::Flags::flag_below))]
 pub fn clear_flag(img: &mut Image, flag: Flag)
-    requires { Good img.old }
     ensures { img.new ≡ put 2 img.old 0 (without_bit (flags img.old) (flag_bit flag)) }
 {
-    let set = u64::from(fields::get16(img, image::FLAGS));
-    let k = u64::from(u8::from(flag));
-    fields::put16(img, image::FLAGS, without_bit(set, k) as u16);
+    let set = fields::get16(img, image::FLAGS);
+    fields::put16(img, image::FLAGS, set & !(1 << u8::from(flag)));
 }
 
 #[tactic(auto, unfolding(crate::specs::Setters::set_cap), using(crate::specs::Kept::cap_keys))]

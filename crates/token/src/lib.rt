@@ -16,7 +16,7 @@ use refusal::Refusal;
 // The vault's own address.
 pub const VAULT: Address = Address { number: 1 };
 
-// 23 where there is no such token.
+// 23 where there is no such token. Any number may be asked for: one above 255 is no token's.
 #[tactic(auto, unfolding(fields::specs::Rules::verdict, crate::specs::Token::absent_number))]
 pub fn presence_check(img: &Image, t: usize) -> Result<Token, Refusal>
     ensures number { code result ≡ absent_number img.now t }
@@ -36,6 +36,7 @@ pub fn moving(img: &Image, t: u8) -> Option<Token>
     Token::new(t).filter(|token| image::token_kind(img, *token) == Kind::Moving)
 }
 
+// SEP-41's name; the contract's `storage::get_token_account_balance` reads a credit so, and is defined apart.
 pub fn balance(img: &Image, token: Token, a: Address) -> Amount
     ensures { biased result ≡ holding img.now (slot token.address) a.number }
 {
