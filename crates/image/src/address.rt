@@ -33,7 +33,7 @@ impl Token {
     pub fn new(address: u8) -> Option<Token>
         ensures { MatchOption result (48 ≤ address → 64 ≤ address) (λ t. t.address ≡ address) }
     {
-        if 48 <= address && address < 64 {
+        if FIRST_TOKEN <= address && address < 64 {
             return Some(Token { address });
         }
         None
@@ -43,11 +43,11 @@ impl Token {
     pub fn slot(self) -> usize
         ensures { result ≡ slot self.address }
     {
-        usize::from(self.address) - FIRST_TOKEN
+        usize::from(self.address - FIRST_TOKEN)
     }
 }
 
-// Whether a set of addresses holds one.
+// Whether a set of addresses, or of flags, holds one.
 #[tactic(auto, unfolding(crate::specs::Flags::in_set), using(amount::specs::Laws::num_bit, crate::specs::Flags::past_set))]
 pub fn contains(set: u64, a: u8) -> bool
     ensures { num result ≡ in_set set a }

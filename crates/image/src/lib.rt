@@ -51,7 +51,7 @@ pub const LENGTH: usize = 36832;
 pub type Image = [u8; LENGTH];
 
 // The address of the first token.
-const FIRST_TOKEN: usize = 48;
+pub const FIRST_TOKEN: u8 = 48;
 
 // A byte of an address, tested.
 fn address_at(s: &[u8], at: usize) -> bool
@@ -296,7 +296,10 @@ fn good_tokens(s: &Image) -> bool
     (0..16).all(
         |t|
             requires { t < 16 }
-        { good_token(s, Token { address: 48 + t }) },
+        {
+            let address = FIRST_TOKEN + t;
+            good_token(s, Token { address })
+        },
     )
 }
 
@@ -315,6 +318,7 @@ pub fn set_token_kind(img: &mut Image, token: Token, kind: Kind)
 }
 
 // Total: any slice.
+#[tactic(auto, unfolding(crate::specs::Good::good_image), using(std::proofs::Common::ne_eqb, fields::specs::Logic::false_and))]
 pub fn good_image(bytes: &[u8]) -> bool
     ensures { result ≡ good_image bytes.now }
 {

@@ -52,11 +52,11 @@ pub fn set_token_account_balance(img: &mut Image, token: Token, account: Address
     ensures { img.new ≡ set_credit img.old token.address account.number (biased balance) }
 {
     amount::write_amount(img, image::credit_at(token, account), balance);
-    let key = 64 * u16::from(token.address - 48) + u16::from(account.number);
+    let key = 64 * u16::from(token.address - image::FIRST_TOKEN) + u16::from(account.number);
     track_vault_key(img, key);
 }
 
-// The set with bit k, below 64, set. Addresses and flags are numbered so, and share no type.
+// The set with bit k, below 64, set.
 #[tactic(auto, using(crate::specs::Bits::shifted_one, crate::specs::Bits::or_bit))]
 pub fn with_bit(set: u64, k: u64) -> u64
     requires { k < 64 }

@@ -2,16 +2,12 @@
 use Prim.Native.Nat.{ℕ, ◌<◌}
 use mathlib.Core.Path.{sym}
 use native.Mathlib.Omega.{arith}
-use borrow.Author.Tests.{eq-eqb, ne_eqb}
+use borrow.Author.Tests.{eq-eqb}
 use lib.ListN.{length, get_or}
-use Rattle.fields.specs.Logic.{false_and, true_and, and_is, and_assoc}
+use Rattle.fields.specs.Logic.{true_and, and_is, and_assoc}
 use Rattle.image.specs.Good.{good_image}
 use Rattle.fields.specs.Bytes.{bytes_from}
 use Rattle.image.proofs.good_image.Goals as goal
-
-pub returns-in_default : goal.returns-in_default
-unfolding good_image
-returns-in_default c = rw (ne_eqb (length c.args.bytes.now) 36832 c.in_default.ensures.1, false_and)
 
 pub returns : goal.returns
 unfolding good_image
