@@ -1,7 +1,7 @@
 -- The loops over the items: what holds after i of them.
 use mathlib.Core.Path.{◌≡◌, refl, sym, ap, ◌∙◌}
 use mathlib.Core.List.{List, [], ◌∷◌, ◌++◌, append_assoc, append-nil}
-use Prim.Native.Nat.{ℕ, ◌+◌, ◌-◌, ◌*◌, ◌≤◌, ◌<◌}
+use Prim.Native.Nat.{ℕ, suc, ◌+◌, ◌-◌, ◌*◌, ◌≤◌, ◌<◌}
 use native.Mathlib.Omega.{arith}
 use lib.ListN.{length, length-append}
 use native.Mathlib.Nat.{sub-zero}
@@ -12,10 +12,10 @@ use Rattle.token.specs.Token.{transfer_number}
 use Rattle.token.specs.Laws.{transfer_free, good_transfer}
 use Rattle.storage.specs.Facts.{Good}
 use Rattle.amount.specs.Biased.{bias}
-use Rattle.fields.specs.Rules.{chain}
-use Rattle.checks.specs.Checks.{max_vault_deposit, deposit_amount_number, signed_number}
+use Rattle.fields.specs.Rules.{or_else}
+use Rattle.checks.specs.Checks.{max_vault_deposit}
 use Rattle.batch_deposits.specs.Batch.{item_number, items_number, items_sum, item_transfer, transfers_number, transfers_image, item_event, transfers_events}
-use Rattle.batch_deposits.specs.Laws.{item_free, one_more_fits, items_end, items_stop, items-step, transfers_end, transfers_stop, transfers_step}
+use Rattle.batch_deposits.specs.Laws.{transfers_end, transfers_stop, transfers_step}
 
 -- s is the sum, as a number, of the first i items of count
 pub record Added (r : List ℕ) (signers count i s : ℕ) : Type 0 where
@@ -27,38 +27,21 @@ pub record Added (r : List ℕ) (signers count i s : ℕ) : Type 0 where
 pub sum_begins : (r : List ℕ) (signers count s : ℕ) → s ≡ bias → Added r signers count 0 s
 sum_begins r signers count s e = record { number = rw sub-zero; sum = rw (sub-zero, e); low = omega arith; high = omega arith }
 
-module _ (r : List ℕ) (signers count i s : ℕ) (w : Added r signers count i s) where
-  -- a turn: a and n are the item, k is the number of its check
-  module _ {a n k : ℕ} (h : i < count) (p : (a ≡ item_address r i) × (n ≡ item_amount r i)) (q : k ≡ chain (deposit_amount_number n ∷ signed_number signers a ∷ [])) where
-    checked_item : k ≡ item_number r signers i
-    unfolding item_number
-    checked_item = rw (p.0, p.1) at q
+-- one item more
+module _ (r : List ℕ) (count i : ℕ) where
+  pub number_next : (signers : ℕ) → i < count → items_number (count - i) r signers i ≡ or_else (item_number r signers i) (items_number (count - (i + 1)) r signers (i + 1))
+  unfolding items_number
+  number_next signers h =
+      let e : count - i ≡ suc (count - (i + 1)) = omega arith in
+      let f : i + 1 ≡ suc i = omega arith in
+      rw (e, f)
 
-    pub sum_stops : (k ≡ 0 → ⊥) → k ≡ items_number count r signers 0
-    sum_stops z = items_stop (count - i) r signers i checked_item (omega arith) z ∙ sym w.number
-
-    pub sum_fits : count ≤ 16 → k ≡ 0 → (bias ≤ s + n) × (s + n < bias + bias + bias)
-    sum_fits m z =
-        let (low, (high, _)) = item_free r signers i checked_item z in
-        let c = w.high in
-        let d = w.low in
-        let f = one_more_fits i (omega arith) in
-        (omega arith, omega arith)
-
-    pub sum_goes_on : {t : ℕ} → k ≡ 0 → t ≡ s + n - bias → Added r signers count (i + 1) t
-    sum_goes_on z e =
-        let (low, (high, _)) = item_free r signers i checked_item z in
-        let (sn, ss) = items-step (count - i) r signers i checked_item (count - (i + 1)) (i + 1) (omega arith) (omega arith) z in
-        let c = w.high in
-        let d = w.low in
-        let f = w.sum in
-        record { number = w.number ∙ sn; sum = omega arith; low = omega arith; high = omega arith }
-
-  pub sum_ends : count - i ≡ 0 → (0 ≡ items_number count r signers 0) × (s ≡ bias + items_sum count r 0)
-  sum_ends z =
-      let (sn, ss) = items_end (count - i) r signers i z in
-      let f = w.sum in
-      (sym (w.number ∙ sn), omega arith)
+  pub sum_next : i < count → items_sum (count - i) r i ≡ item_amount r i - bias + items_sum (count - (i + 1)) r (i + 1)
+  unfolding items_sum
+  sum_next h =
+      let e : count - i ≡ suc (count - (i + 1)) = omega arith in
+      let f : i + 1 ≡ suc i = omega arith in
+      rw (e, f)
 
 -- the buffer holds i of all events, and the rest is to come
 pub record Written (i : ℕ) (e : List ℕ) (all rest : List EventFields) : Type 0 where

@@ -8,12 +8,12 @@ ghost use Rattle.image.specs.Layout.{slot, holding, initialised};
 ghost use Rattle.storage.specs.Facts.{Good, Keys};
 ghost use Rattle.storage.specs.Setters.{record_balance};
 ghost use Rattle.token.specs.Token.{transfer_of};
-ghost use Rattle.events.specs.Event.{event_buffer, put_event};
+ghost use Rattle.events.specs.Event.{event_buffer};
 ghost use Rattle.events.specs.Kinds.{fields_of, withdrawn_event};
 ghost use Rattle.outcome.specs.Outcome.{Does};
 ghost use Rattle.payouts.specs.Payouts.{payout, items, item_number, items_number, items_sum, withdraw_checks, pay_number, withdraw_outcome};
 ghost use Rattle.payouts.specs.Token.{credit_number, take_credit, withdraw_token_checks, withdraw_token_outcome};
-ghost use Rattle.payouts.specs.Parts.{withdrawal_of, Pays, Addressed, Payable};
+ghost use Rattle.payouts.specs.Parts.{withdrawal_of, Pays, Payable};
 
 use amount::Amount;
 use events::{Buffer, Event};

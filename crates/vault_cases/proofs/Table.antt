@@ -24,7 +24,7 @@ use Rattle.operations.specs.Operations.{outcome_of}
 use Rattle.token_vault.specs.Vault.{op, view, vault_step}
 use Rattle.token_vault.proofs.Called.{own_number, own_image, vault_begin, vault_undo}
 use Rattle.vault_cases.specs.Setting.{case_image, full_credit_image, start, ask, deposits, deposits_in, deposits_with_fee, deposits_token, pays_to, pays_two, limits_operator, sets_limit, pauses, proposes, accepts_at, initiates, executes_at, asks_compliance}
-use Rattle.vault_cases.specs.Cases.{Cases, answers, after, done, refused}
+use Rattle.vault_cases.specs.Cases.{CasesHold, Cases, answers, after, done, refused}
 use Rattle.vault_cases.proofs.Flat.{image_of, case_bytes, deposited_bytes, migrated_bytes, paid_bytes, no_credit, credit_of_ten, credit_full, case_flat, full_flat}
 use Rattle.vault_cases.proofs.Made.{good}
 use Rattle.vault_cases.proofs.Runs.{Accepts, Refuses, Views, passed, shown-done, length-changed, accepted, accepts, refuses, viewed, still_good}
@@ -202,3 +202,6 @@ each_case n f h =
 pub longest : Cases 48024
 unfolding fits ◌and◌
 longest = each_case 48024 refl (omega arith)
+
+pub cases_hold : CasesHold
+cases_hold = record { every = each_case; longest = longest }

@@ -4,6 +4,7 @@
 ghost use Rattle.vault_cases.specs.Cases.{CasesHold};
 
 // Cases A to L hold of the vault's step.
+#[tactic(auto, using(crate::proofs::Table::cases_hold))]
 pub fn cases() -> u32
     ensures { CasesHold }
 {
