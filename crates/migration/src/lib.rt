@@ -74,8 +74,8 @@ fn execute_check(img: &Image, head: Head) -> Result<u8, Refusal>
 
 // 23; a holding of 0 makes no transfer.
 #[tactic(auto, unfolding(crate::specs::Migration::migrate_number, crate::specs::Migration::migrate_holding), using(token::specs::Laws::transfer_done, refusal::specs::Laws::on_ok))]
-fn migrate_holding(img: &mut Image, held: Amount) -> Result<(), Refusal>
-    requires { Good img.old × (initialised img.old ≡ 1) × (biased held ≡ vault_balance img.old) }
+fn migrate_holding(img: &mut Image, to: Address, held: Amount) -> Result<(), Refusal>
+    requires { Good img.old × (initialised img.old ≡ 1) × (to.number ≡ destination img.old) × (biased held ≡ vault_balance img.old) }
     ensures value { code result ≡ migrate_number img.old }
     ensures img_after { OnOk result (img.new ≡ migrate_holding img.old) }
 {
@@ -83,9 +83,6 @@ fn migrate_holding(img: &mut Image, held: Amount) -> Result<(), Refusal>
         return Ok(());
     }
     let t = fields::get8(img, image::DEFAULT_TOKEN);
-    let to = Address {
-        number: fields::get8(img, image::DESTINATION),
-    };
     token::transfer(img, usize::from(t), token::VAULT, to, held)
 }
 
@@ -103,15 +100,17 @@ pub fn execute_emergency_migration(img: &mut Image, head: Head, events: &mut Buf
     requires { Good img.old }
     ensures { Does (execute_outcome img.old head.caller.number head.signers head.timestamp) result img.new events.new }
 {
-    let to = execute_check(img, head)?;
+    let to = Address {
+        number: execute_check(img, head)?,
+    };
     let held = token::vault_balance(img);
-    migrate_holding(img, held)?;
+    migrate_holding(img, to, held)?;
     clear_migration(img);
     Ok(outcome::announce_value(
         events,
         Event::EmergencyMigrationExecuted {
             caller: head.caller.number,
-            destination: to,
+            destination: to.number,
             amount: held,
         },
         held,
