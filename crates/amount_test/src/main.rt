@@ -26,7 +26,7 @@ fn truth(rt: &impl Print, b: bool) -> io::Result<()> {
     }
 }
 
-// The sixteen bytes in hexadecimal, the highest first.
+// The sixteen bytes in hexadecimal, the highest first. `fields_test` prints halves too: tests share no library but what they test.
 fn show(rt: &impl Print, a: Amount) -> io::Result<()> {
     let mut s = [0u8; 16];
     amount::write_amount(&mut s, 0, a);
@@ -80,7 +80,7 @@ fn orders(rt: &impl Print) -> io::Result<()> {
     truth(rt, Amount::ZERO < ONE)
 }
 
-// 0 below zero, 1 zero, 2 above.
+// 0 below zero, 1 zero, 2 above. Printed as the stored run has it.
 fn sign(a: Amount) -> u8 {
     match a.cmp(&Amount::ZERO) {
         Ordering::Less => 0,

@@ -44,7 +44,7 @@ pub fn owner_role_check(img: &Image, caller: u8) -> Result<(), Refusal>
 }
 
 // 1, 3, 22. `shared_gate` differs in one check, which a parameter would name as well.
-// Callers hold `caller` and `signers` as two fields: a struct of the two would be made at each call.
+// A struct of caller and signers would stand in `Head`; `initialize` and batches test other addresses by the same set.
 pub fn owner_gate(img: &Image, caller: u8, signers: u64) -> Result<(), Refusal>
     ensures { code result ≡ owner_number img.now caller signers }
 {

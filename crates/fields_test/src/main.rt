@@ -11,7 +11,7 @@ fn truth(rt: &impl Print, b: bool) -> io::Result<()> {
     }
 }
 
-// The sixteen bytes as two numbers in hexadecimal, the upper half first.
+// The sixteen bytes as two numbers in hexadecimal, the upper half first. `amount_test` prints halves too: tests share no library but what they test.
 fn halves(rt: &impl Print, s: &[u8; 16]) -> io::Result<()> {
     print!(rt; "{:016x}", fields::get64(s, 8))?;
     println!(rt; "{:016x}", fields::get64(s, 0))

@@ -1,21 +1,20 @@
 // Operations 15 to 17: the owner is proposed and accepted, and how long a proposal lives (lib.rs).
 #![tactic(auto, unfolding(fields::specs::Rules::chain, fields::specs::Rules::or_else, fields::specs::Rules::verdict, crate::specs::Handover::propose_outcome, crate::specs::Handover::propose_number, crate::specs::Handover::new_owner_number, crate::specs::Handover::pending_number, crate::specs::Handover::expired_number, crate::specs::Handover::accept_number, crate::specs::Handover::clear_pending, crate::specs::Handover::accept_outcome, crate::specs::Handover::proposal_ttl_outcome, crate::specs::Handover::proposal_ttl_number, crate::specs::Handover::ttl_number), using(outcome::specs::Outcome::refused, outcome::specs::Outcome::announced))]
 
-ghost use Rattle.std.specs.Prelude.{◌≡◌};
+ghost use Rattle.std.specs.Prelude.{IfOk, ◌≡◌};
 ghost use Rattle.refusal.specs.Numbers.{code};
-ghost use Rattle.storage.specs.Facts.{Good};
+ghost use Rattle.image.specs.Layout.{proposer, proposed_at};
 ghost use Rattle.outcome.specs.Outcome.{Does};
 ghost use Rattle.handover.specs.Handover.{propose_outcome, pending_number, expired_number, accept_number, clear_pending, accept_outcome, proposal_ttl_outcome};
 
 use events::{Buffer, Event};
-use image::{Flag, Image};
+use image::{Flag, Image, PendingOwner};
 use outcome::Answer;
 use record::Head;
 use refusal::Refusal;
 
 // 1, 3, 22; 14.
 pub fn propose_owner(img: &mut Image, head: Head, events: &mut Buffer) -> Answer
-    requires { Good img.old }
     ensures { Does (propose_outcome img.old head.caller.number head.signers head.other.number head.timestamp) result img.new events.new }
 {
     checks::owner_gate(img, head.caller.number, head.signers)?;
@@ -34,36 +33,39 @@ pub fn propose_owner(img: &mut Image, head: Head, events: &mut Buffer) -> Answer
 }
 
 // 15, 16.
-fn pending_check(img: &Image, caller: u8) -> Result<(), Refusal>
-    ensures { code result ≡ pending_number img.now caller }
+fn pending_check(img: &Image, caller: u8) -> Result<PendingOwner, Refusal>
+    ensures number { code result ≡ pending_number img.now caller }
+    ensures pending { IfOk result (λ p. (p.proposer ≡ proposer img.now) × (p.proposed_at ≡ proposed_at img.now)) }
 {
     let pending = image::pending_owner(img).ok_or(Refusal::NoPendingOwner)?;
-    refusal::refuse_if(pending != caller, Refusal::NotPendingOwner)
+    refusal::refuse_if(pending.address != caller, Refusal::NotPendingOwner)?;
+    Ok(pending)
 }
 
 // 7, 17.
-fn expired_check(img: &Image, time: u64) -> Result<(), Refusal>
+fn expired_check(img: &Image, pending: PendingOwner, time: u64) -> Result<(), Refusal>
+    requires { pending.proposed_at ≡ proposed_at img.now }
     ensures { code result ≡ expired_number img.now time }
 {
-    let proposed_at = fields::get64(img, image::PROPOSED_AT);
-    let time_to_live = fields::get64(img, image::TIME_TO_LIVE);
-    let expires_at = proposed_at
-        .checked_add(time_to_live)
+    let expires_at = pending
+        .proposed_at
+        .checked_add(fields::get64(img, image::TIME_TO_LIVE))
         .ok_or(Refusal::ArithmeticOverflow)?;
     refusal::refuse_if(time >= expires_at, Refusal::PendingOwnerExpired)
 }
 
-// 15, 16; 22; 7, 17.
-fn accept_check(img: &Image, head: Head) -> Result<(), Refusal>
-    ensures { code result ≡ accept_number img.now head.caller.number head.signers head.timestamp }
+// 15, 16; 22; 7, 17; who proposed the new owner.
+fn accept_check(img: &Image, head: Head) -> Result<u8, Refusal>
+    ensures number { code result ≡ accept_number img.now head.caller.number head.signers head.timestamp }
+    ensures proposer { IfOk result (λ p. p ≡ proposer img.now) }
 {
-    pending_check(img, head.caller.number)?;
+    let pending = pending_check(img, head.caller.number)?;
     checks::signed_check(head.signers, head.caller.number)?;
-    expired_check(img, head.timestamp)
+    expired_check(img, pending, head.timestamp)?;
+    Ok(pending.proposer)
 }
 
 fn clear_pending(img: &mut Image)
-    requires { Good img.old }
     ensures { img.new ≡ clear_pending img.old }
 {
     storage::clear_flag(img, Flag::PendingOwner);
@@ -73,11 +75,9 @@ fn clear_pending(img: &mut Image)
 }
 
 pub fn accept_owner(img: &mut Image, head: Head, events: &mut Buffer) -> Answer
-    requires { Good img.old }
     ensures { Does (accept_outcome img.old head.caller.number head.signers head.timestamp) result img.new events.new }
 {
-    accept_check(img, head)?;
-    let proposer = fields::get8(img, image::PROPOSER);
+    let proposer = accept_check(img, head)?;
     clear_pending(img);
     fields::put8(img, image::OWNER, head.caller.number);
     Ok(outcome::announce(
@@ -91,7 +91,6 @@ pub fn accept_owner(img: &mut Image, head: Head, events: &mut Buffer) -> Answer
 
 // 1, 3, 22; 4.
 pub fn set_owner_proposal_ttl(img: &mut Image, head: Head, events: &mut Buffer) -> Answer
-    requires { Good img.old }
     ensures { Does (proposal_ttl_outcome img.old head.caller.number head.signers head.time_to_live) result img.new events.new }
 {
     checks::owner_gate(img, head.caller.number, head.signers)?;

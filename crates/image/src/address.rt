@@ -19,6 +19,7 @@ pub struct Token {
 }
 
 impl Address {
+    // As std's `NonZero::new`.
     pub fn new(number: u8) -> Option<Address>
         ensures { MatchOption result (64 ≤ number) (λ a. a.number ≡ number) }
     {
@@ -30,6 +31,7 @@ impl Address {
 }
 
 impl Token {
+    // As std's `NonZero::new`.
     pub fn new(address: u8) -> Option<Token>
         ensures { MatchOption result (48 ≤ address → 64 ≤ address) (λ t. t.address ≡ address) }
     {
@@ -47,7 +49,8 @@ impl Token {
     }
 }
 
-// Whether a set of addresses, or of flags, holds one.
+// Whether a set of addresses, or of flags, holds one. A set is the format's number;
+// a struct of it would be made where it is read and taken apart where it is written.
 #[tactic(auto, unfolding(crate::specs::Flags::in_set), using(amount::specs::Laws::num_bit, crate::specs::Flags::past_set))]
 pub fn contains(set: u64, a: u8) -> bool
     ensures { num result ≡ in_set set a }

@@ -19,6 +19,7 @@ pub enum Flag {
 impl From<Flag> for u8 {
     ghost from_gives = { λ flag n. n ≡ flag_bit flag };
 
+    // `as` is how an enum gives its number.
     fn from(flag: Flag) -> u8 {
         flag as u8
     }

@@ -28,6 +28,7 @@ impl TryFrom<u64> for Kind {
 impl From<Kind> for u64 {
     ghost from_gives = { λ kind n. n ≡ kind_number kind };
 
+    // `as` is how an enum gives its number.
     fn from(kind: Kind) -> u64 {
         kind as u64
     }

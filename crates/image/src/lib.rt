@@ -37,7 +37,10 @@ pub use address::{Address, Token, contains};
 use amount::Amount;
 pub use flag::{Flag, has_flag};
 pub use kind::Kind;
-pub use options::{Snapshot, cap, operator, operator_limit, pending_owner, vault_snapshot};
+pub use options::{
+    Migration, PendingOwner, Snapshot, cap, operator, operator_limit, pending_owner,
+    proposed_migration, vault_snapshot,
+};
 pub use places::{
     APPROVED_SET, CAPPED_SET, CAPS, CREDITS, DEFAULT_TOKEN, DESTINATION, EXECUTABLE_AT, FLAGS,
     HOLDINGS, MIGRATION_PROPOSED_AT, OPERATOR, OPERATOR_LIMIT, OWNER, PENDING_OWNER, PROPOSED_AT,
@@ -61,6 +64,7 @@ fn address_at(s: &[u8], at: usize) -> bool
     Address::new(fields::get8(s, at)).is_some()
 }
 
+// One a width, as `fields::get8` and `get64`.
 fn zero8_at(s: &[u8], at: usize) -> bool
     requires { at + 1 ≤ length s.now }
     ensures { result ≡ eqb (le 1 s.now at) 0 }
@@ -97,6 +101,7 @@ fn not_negative_at(s: &[u8], at: usize) -> bool
     !amount::read_amount(s, at).is_negative()
 }
 
+// The format's rule tests the value where the flag is not set too, so no `Option` holds it.
 fn above_where(s: &[u8], at: usize, is_set: bool) -> bool
     requires { at + 16 ≤ length s.now }
     ensures { result ≡ above_where (num is_set) (amount_at s.now at) }

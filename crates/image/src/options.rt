@@ -4,11 +4,14 @@
 ghost use Rattle.std.specs.Prelude.{◌≡◌, MatchOption};
 ghost use Rattle.amount.specs.Biased.{biased};
 ghost use Rattle.image.specs.Flags.{flag, in_set};
-ghost use Rattle.image.specs.Layout.{slot, operator, operator_limit, pending_owner, capped_set, cap, snapshot_present, snapshot_ledger, snapshot_holding};
+ghost use Rattle.image.specs.Layout.{slot, operator, operator_limit, pending_owner, proposer, proposed_at, destination, executable_at, capped_set, cap, snapshot_present, snapshot_ledger, snapshot_holding};
 
 use crate::address::{Address, Token, contains};
 use crate::flag::{Flag, has_flag};
-use crate::{CAPPED_SET, Image, OPERATOR, OPERATOR_LIMIT, PENDING_OWNER, cap_at, snapshot_at};
+use crate::{
+    CAPPED_SET, DESTINATION, EXECUTABLE_AT, Image, OPERATOR, OPERATOR_LIMIT, PENDING_OWNER,
+    PROPOSED_AT, PROPOSER, cap_at, snapshot_at,
+};
 use amount::Amount;
 
 pub fn operator(img: &Image) -> Option<u8>
@@ -23,10 +26,38 @@ pub fn operator_limit(img: &Image) -> Option<Amount>
     has_flag(img, Flag::OperatorLimit).then_some(amount::read_amount(img, OPERATOR_LIMIT))
 }
 
-pub fn pending_owner(img: &Image) -> Option<u8>
-    ensures { MatchOption result (flag 4 img.now ≡ 0) (λ a. (flag 4 img.now ≡ 1) × (a ≡ pending_owner img.now)) }
+// The address that is proposed as owner, by whom and when.
+#[derive(Clone, Copy, Debug, PartialEq, Eq)]
+pub struct PendingOwner {
+    pub address: u8,
+    pub proposer: u8,
+    pub proposed_at: u64,
+}
+
+pub fn pending_owner(img: &Image) -> Option<PendingOwner>
+    ensures { MatchOption result (flag 4 img.now ≡ 0) (λ p. (flag 4 img.now ≡ 1) × (p.address ≡ pending_owner img.now) × (p.proposer ≡ proposer img.now) × (p.proposed_at ≡ proposed_at img.now)) }
 {
-    has_flag(img, Flag::PendingOwner).then_some(fields::get8(img, PENDING_OWNER))
+    has_flag(img, Flag::PendingOwner).then_some(PendingOwner {
+        address: fields::get8(img, PENDING_OWNER),
+        proposer: fields::get8(img, PROPOSER),
+        proposed_at: fields::get64(img, PROPOSED_AT),
+    })
+}
+
+// Where the vault's holding is to go, and from when.
+#[derive(Clone, Copy, Debug, PartialEq, Eq)]
+pub struct Migration {
+    pub destination: u8,
+    pub executable_at: u64,
+}
+
+pub fn proposed_migration(img: &Image) -> Option<Migration>
+    ensures { MatchOption result (flag 5 img.now ≡ 0) (λ m. (flag 5 img.now ≡ 1) × (m.destination ≡ destination img.now) × (m.executable_at ≡ executable_at img.now)) }
+{
+    has_flag(img, Flag::Migration).then_some(Migration {
+        destination: fields::get8(img, DESTINATION),
+        executable_at: fields::get64(img, EXECUTABLE_AT),
+    })
 }
 
 pub fn cap(img: &Image, a: Address) -> Option<Amount>

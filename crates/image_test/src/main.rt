@@ -43,7 +43,7 @@ fn fill_tokens(image: &mut Image) {
     amount::write_amount(image, 20496, Amount::from(5));
 }
 
-// The image with one byte changed.
+// The image with one byte changed; at a place past its end, which the lists below have none of, it stays as it is.
 fn try_byte(rt: &impl Print, image: &Image, at: usize, byte: u8) -> io::Result<()> {
     let mut changed = *image;
     if let Some(place) = changed.get_mut(at) {

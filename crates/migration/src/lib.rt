@@ -4,7 +4,7 @@
 ghost use Rattle.std.specs.Prelude.{IfOk, OnOk, ◌≡◌, ◌+◌};
 ghost use Rattle.refusal.specs.Numbers.{code};
 ghost use Rattle.amount.specs.Biased.{biased};
-ghost use Rattle.image.specs.Layout.{initialised};
+ghost use Rattle.image.specs.Layout.{initialised, destination, executable_at};
 ghost use Rattle.storage.specs.Facts.{Good};
 ghost use Rattle.token.specs.Token.{vault_balance};
 ghost use Rattle.outcome.specs.Outcome.{Does};
@@ -12,7 +12,7 @@ ghost use Rattle.migration.specs.Migration.{timelock, proposal_number, initiate_
 
 use amount::Amount;
 use events::{Buffer, Event};
-use image::{Address, Flag, Image};
+use image::{Address, Flag, Image, Migration};
 use outcome::Answer;
 use record::Head;
 use refusal::Refusal;
@@ -32,7 +32,6 @@ fn proposal_check(to: u8, time: u64) -> Result<u64, Refusal>
 
 // 1, 3, 22; 14, 7.
 pub fn initiate_emergency_migration(img: &mut Image, head: Head, events: &mut Buffer) -> Answer
-    requires { Good img.old }
     ensures { Does (initiate_outcome img.old head.caller.number head.signers head.other.number head.timestamp) result img.new events.new }
 {
     checks::owner_gate(img, head.caller.number, head.signers)?;
@@ -52,31 +51,31 @@ pub fn initiate_emergency_migration(img: &mut Image, head: Head, events: &mut Bu
 }
 
 // 20.
-fn migration_check(img: &Image) -> Result<(), Refusal>
-    ensures { code result ≡ no_migration_number img.now }
+fn migration_check(img: &Image) -> Result<Migration, Refusal>
+    ensures number { code result ≡ no_migration_number img.now }
+    ensures migration { IfOk result (λ m. (m.destination ≡ destination img.now) × (m.executable_at ≡ executable_at img.now)) }
 {
-    refusal::refuse_if(
-        !checks::has_flag(img, Flag::Migration),
-        Refusal::NoMigrationProposed,
-    )
+    image::proposed_migration(img).ok_or(Refusal::NoMigrationProposed)
 }
 
-// 1, 3, 22; 20; 21.
-fn execute_check(img: &Image, head: Head) -> Result<(), Refusal>
-    ensures { code result ≡ execute_checks img.now head.caller.number head.signers head.timestamp }
+// 1, 3, 22; 20; 21; where the holding is to go.
+fn execute_check(img: &Image, head: Head) -> Result<u8, Refusal>
+    ensures number { code result ≡ execute_checks img.now head.caller.number head.signers head.timestamp }
+    ensures to { IfOk result (λ to. to ≡ destination img.now) }
 {
     checks::owner_gate(img, head.caller.number, head.signers)?;
-    migration_check(img)?;
+    let migration = migration_check(img)?;
     refusal::refuse_if(
-        head.timestamp < fields::get64(img, image::EXECUTABLE_AT),
+        head.timestamp < migration.executable_at,
         Refusal::TimelockNotExpired,
-    )
+    )?;
+    Ok(migration.destination)
 }
 
 // 23; a holding of 0 makes no transfer.
 #[tactic(auto, unfolding(crate::specs::Migration::migrate_number, crate::specs::Migration::migrate_holding), using(token::specs::Laws::transfer_done, refusal::specs::Laws::on_ok))]
-fn migrate_holding(img: &mut Image, held: Amount) -> Result<(), Refusal>
-    requires { Good img.old × (initialised img.old ≡ 1) × (biased held ≡ vault_balance img.old) }
+fn migrate_holding(img: &mut Image, to: Address, held: Amount) -> Result<(), Refusal>
+    requires { Good img.old × (initialised img.old ≡ 1) × (to.number ≡ destination img.old) × (biased held ≡ vault_balance img.old) }
     ensures value { code result ≡ migrate_number img.old }
     ensures img_after { OnOk result (img.new ≡ migrate_holding img.old) }
 {
@@ -84,14 +83,10 @@ fn migrate_holding(img: &mut Image, held: Amount) -> Result<(), Refusal>
         return Ok(());
     }
     let t = fields::get8(img, image::DEFAULT_TOKEN);
-    let to = Address {
-        number: fields::get8(img, image::DESTINATION),
-    };
     token::transfer(img, usize::from(t), token::VAULT, to, held)
 }
 
 fn clear_migration(img: &mut Image)
-    requires { Good img.old }
     ensures { img.new ≡ clear_migration img.old }
 {
     storage::clear_flag(img, Flag::Migration);
@@ -105,16 +100,17 @@ pub fn execute_emergency_migration(img: &mut Image, head: Head, events: &mut Buf
     requires { Good img.old }
     ensures { Does (execute_outcome img.old head.caller.number head.signers head.timestamp) result img.new events.new }
 {
-    execute_check(img, head)?;
-    let to = fields::get8(img, image::DESTINATION);
+    let to = Address {
+        number: execute_check(img, head)?,
+    };
     let held = token::vault_balance(img);
-    migrate_holding(img, held)?;
+    migrate_holding(img, to, held)?;
     clear_migration(img);
     Ok(outcome::announce_value(
         events,
         Event::EmergencyMigrationExecuted {
             caller: head.caller.number,
-            destination: to,
+            destination: to.number,
             amount: held,
         },
         held,
@@ -123,7 +119,6 @@ pub fn execute_emergency_migration(img: &mut Image, head: Head, events: &mut Buf
 
 // 1, 3, 22; 20.
 pub fn cancel_emergency_migration(img: &mut Image, head: Head, events: &mut Buffer) -> Answer
-    requires { Good img.old }
     ensures { Does (cancel_outcome img.old head.caller.number head.signers) result img.new events.new }
 {
     checks::owner_gate(img, head.caller.number, head.signers)?;

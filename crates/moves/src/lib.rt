@@ -40,7 +40,6 @@ pub fn outside_move(img: &mut Image, head: Head, events: &mut Buffer) -> Answer
 }
 
 pub fn freeze(img: &mut Image, head: Head, events: &mut Buffer) -> Answer
-    requires { Good img.old }
     ensures { Does (freeze_outcome img.old head.token.number (num head.flag)) result img.new events.new }
 {
     let token = token::presence_check(img, usize::from(head.token.number)).map_err(

@@ -45,6 +45,7 @@ pub enum Refusal {
 impl From<Refusal> for u8 {
     ghost from_gives = { λ r n. n ≡ number_of r };
 
+    // `as` is how an enum gives its number.
     fn from(refusal: Refusal) -> u8 {
         refusal as u8
     }
@@ -67,6 +68,7 @@ pub fn refuse_if(holds: bool, refusal: Refusal) -> Result<(), Refusal>
 }
 
 // The contract carries the theorem `DistinctNumbers`; the number is how many refusals there are.
+#[tactic(auto, using(crate::proofs::Distinct::distinct_numbers))]
 pub fn distinct_numbers() -> u32
     ensures { DistinctNumbers }
 {

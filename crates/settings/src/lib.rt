@@ -18,7 +18,6 @@ use refusal::Refusal;
 
 // 8; 1, 3, 22; 4.
 pub fn set_operator_withdraw_limit(img: &mut Image, head: Head, events: &mut Buffer) -> Answer
-    requires { Good img.old }
     ensures { Does (operator_limit_outcome img.old head.caller.number head.signers (biased head.amount)) result img.new events.new }
 {
     checks::paused_check(img)?;
@@ -101,7 +100,6 @@ pub fn set_token_max_limit(img: &mut Image, head: Head, events: &mut Buffer) -> 
 }
 
 pub fn set_operator(img: &mut Image, head: Head, events: &mut Buffer) -> Answer
-    requires { Good img.old }
     ensures { Does (operator_set_outcome img.old head.caller.number head.signers head.other.number) result img.new events.new }
 {
     checks::owner_gate(img, head.caller.number, head.signers)?;
@@ -117,7 +115,6 @@ pub fn set_operator(img: &mut Image, head: Head, events: &mut Buffer) -> Answer
 }
 
 pub fn revoke_operator(img: &mut Image, head: Head, events: &mut Buffer) -> Answer
-    requires { Good img.old }
     ensures { Does (operator_revoked_outcome img.old head.caller.number head.signers) result img.new events.new }
 {
     checks::owner_gate(img, head.caller.number, head.signers)?;
@@ -131,9 +128,8 @@ pub fn revoke_operator(img: &mut Image, head: Head, events: &mut Buffer) -> Answ
     ))
 }
 
-// 1, 3, 22; 18.
+// 1, 3, 22; 18. `unpause` turns it round: test, refusal, write and event would each be a parameter.
 pub fn pause(img: &mut Image, head: Head, events: &mut Buffer) -> Answer
-    requires { Good img.old }
     ensures { Does (pause_outcome img.old head.caller.number head.signers head.timestamp) result img.new events.new }
 {
     checks::owner_gate(img, head.caller.number, head.signers)?;
@@ -150,7 +146,6 @@ pub fn pause(img: &mut Image, head: Head, events: &mut Buffer) -> Answer
 
 // 1, 3, 22; 19.
 pub fn unpause(img: &mut Image, head: Head, events: &mut Buffer) -> Answer
-    requires { Good img.old }
     ensures { Does (unpause_outcome img.old head.caller.number head.signers head.timestamp) result img.new events.new }
 {
     checks::owner_gate(img, head.caller.number, head.signers)?;

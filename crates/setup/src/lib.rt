@@ -6,7 +6,6 @@ ghost use Rattle.refusal.specs.Numbers.{code};
 ghost use Rattle.fields.specs.Rules.{pick};
 ghost use Rattle.amount.specs.Biased.{biased, num};
 ghost use Rattle.image.specs.Layout.{approved_set, with_bit, without_bit};
-ghost use Rattle.storage.specs.Facts.{Good};
 ghost use Rattle.outcome.specs.Outcome.{Does};
 ghost use Rattle.setup.specs.Setup.{valid_token_number, approve_number, approve_outcome, initialize_number, initialize_image, initialize_outcome};
 
@@ -52,7 +51,6 @@ fn approved_set(img: &Image, head: Head) -> u64
 }
 
 pub fn approve_token(img: &mut Image, head: Head, events: &mut Buffer) -> Answer
-    requires { Good img.old }
     ensures { Does (approve_outcome img.old head.caller.number head.signers head.token.number (num head.flag)) result img.new events.new }
 {
     approve_check(img, head)?;
@@ -81,7 +79,6 @@ fn initialize_check(img: &Image, head: Head) -> Result<(), Refusal>
 }
 
 fn initialize_image(img: &mut Image, head: Head)
-    requires { Good img.old }
     ensures { img.new ≡ initialize_image img.old head.caller.number head.token.number (biased head.amount) }
 {
     let set = fields::get64(img, image::APPROVED_SET);
@@ -94,7 +91,6 @@ fn initialize_image(img: &mut Image, head: Head)
 }
 
 pub fn initialize(img: &mut Image, head: Head, events: &mut Buffer) -> Answer
-    requires { Good img.old }
     ensures { Does (initialize_outcome img.old head.caller.number head.signers head.token.number (biased head.amount)) result img.new events.new }
 {
     initialize_check(img, head)?;

@@ -56,7 +56,8 @@ pub fn set_token_account_balance(img: &mut Image, token: Token, account: Address
     track_vault_key(img, key);
 }
 
-// The set of addresses with one more.
+// The set of addresses with one more. A set is the format's number; a struct of it would be made
+// where it is read and taken apart where it is written, here and in `without_bit`.
 #[tactic(auto, using(crate::specs::Bits::shifted_one, crate::specs::Bits::or_bit))]
 pub fn with_bit(set: u64, a: Address) -> u64
     ensures { result ≡ with_bit set a.number }

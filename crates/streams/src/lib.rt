@@ -10,6 +10,7 @@ use std::io;
 use std::io::{Read, Write};
 
 // Reads until `buf` is full, the input ends or a read fails, and returns how many bytes it put at the start of `buf`.
+// The count is what the contract's `take` goes by, and what callers compare with a length.
 pub fn read_full<R: Read>(reader: &mut R, buf: &mut [u8]) -> usize
     ensures within { result ≤ length buf.new }
     ensures bytes { Consumes (R.remaining reader.old) (R.remaining reader.new) (take result buf.new) }

@@ -87,7 +87,8 @@ fn after_toll(img: &Image, token: Token, n: Amount) -> Amount
     arrives(amount::read_amount(img, image::toll_at(token)), n)
 }
 
-// What the receiver holds once the sender is left with so much.
+// What the receiver holds once the sender is left with so much. Here and in the two below,
+// from, to and n are SEP-41's arguments, in its order.
 #[tactic(auto, using(crate::proofs::Steps::self_left, crate::proofs::Steps::other_left, amount::specs::Laws::biased_below))]
 fn before_receipt(img: &Image, token: Token, from: Address, to: Address, left: Amount) -> Amount
     requires { Good img.now }
