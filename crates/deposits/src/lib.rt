@@ -16,7 +16,7 @@ ghost use Rattle.deposits.specs.Report.{credited_number, report_outcome, failure
 ghost use Rattle.deposits.specs.TokenDeposit.{token_cap_number, token_funding_number, token_checks, receive_token_number, deposit_token_outcome};
 
 use amount::Amount;
-use events::{Buffer, Event};
+use events::{Buffer, Event, Fields};
 use image::{Address, Image, Token};
 use outcome::{Answer, Done};
 use record::Head;
@@ -147,11 +147,11 @@ impl Payment {
         storage::record_vault_balance(img, self.token, self.sequence, held);
         events::write_one(
             events,
-            Event::Deposited {
+            Fields::from(Event::Deposited {
                 from: self.from.number,
                 amount: self.amount,
                 new_balance: held,
-            },
+            }),
         );
     }
 

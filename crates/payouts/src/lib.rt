@@ -16,7 +16,7 @@ ghost use Rattle.payouts.specs.Token.{credit_number, take_credit, withdraw_token
 ghost use Rattle.payouts.specs.Parts.{withdrawal_of, Pays, Payable};
 
 use amount::Amount;
-use events::{Buffer, Event};
+use events::{Buffer, Event, Fields};
 use image::{Address, Image, Token};
 use outcome::{Answer, Done};
 use record::{Head, Items};
@@ -142,7 +142,7 @@ impl Withdrawal {
         let held = token::balance(img, self.token, token::VAULT);
         self.take_credit(img, due);
         storage::record_vault_balance(img, self.token, self.sequence, held);
-        events::write_one(events, self.event(due, held));
+        events::write_one(events, Fields::from(self.event(due, held)));
     }
 }
 
