@@ -6,7 +6,6 @@ ghost use Rattle.std.specs.Prelude.{◌<◌};
 use amount::Amount;
 use answer_line::Hexadecimal;
 use events::{EVENT_LENGTH, Event, LENGTH};
-use refusal::Refusal;
 use std::io;
 
 fn show(rt: &impl Print, i: usize, e: Event) -> io::Result<()>
@@ -211,9 +210,13 @@ fn tokens(rt: &impl Print) -> io::Result<()> {
     )
 }
 
-// The number of a refusal, and 0 where there is none.
-fn check_length(rt: &impl Print, check: Result<(), Refusal>) -> io::Result<()> {
-    println!(rt; "{}", refusal::number(&check))
+// The number of the refusal of each length, and 0 where there is none.
+fn lengths(rt: &impl Print) -> io::Result<()> {
+    let bytes = [0u8; LENGTH + 1];
+    for bytes in [&bytes[..LENGTH], &bytes[..LENGTH - 1], &bytes] {
+        println!(rt; "{}", refusal::number(&events::buffer_check(bytes)))?;
+    }
+    Ok(())
 }
 
 fn main(rt: HostRuntime) -> io::Result<()> {
@@ -224,10 +227,5 @@ fn main(rt: HostRuntime) -> io::Result<()> {
     owners(&rt)?;
     migrations(&rt)?;
     tokens(&rt)?;
-    let whole = [0u8; LENGTH];
-    check_length(&rt, events::buffer_check(&whole))?;
-    let short = [0u8; LENGTH - 1];
-    check_length(&rt, events::buffer_check(&short))?;
-    let long = [0u8; LENGTH + 1];
-    check_length(&rt, events::buffer_check(&long))
+    lengths(&rt)
 }
