@@ -13,7 +13,7 @@ use outcome::Answer;
 use record::Head;
 use refusal::Refusal;
 
-// 1, 3, 22; 14.
+// 1, 3, 22; 14. Written field by field, as the definition puts them; a writer of an `Option` would match and put the same.
 pub fn propose_owner(img: &mut Image, head: Head, events: &mut Buffer) -> Answer
     ensures { Does (propose_outcome img.old head.caller.number head.signers head.other.number head.timestamp) result img.new events.new }
 {

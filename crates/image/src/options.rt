@@ -14,6 +14,7 @@ use crate::{
 };
 use amount::Amount;
 
+// Addresses are bytes here: that they are below 64 is known of a good image alone, which these do not ask for.
 pub fn operator(img: &Image) -> Option<u8>
     ensures { MatchOption result (flag 2 img.now ≡ 0) (λ a. (flag 2 img.now ≡ 1) × (a ≡ operator img.now)) }
 {
@@ -80,10 +81,7 @@ pub fn vault_snapshot(img: &Image, token: Token) -> Option<Snapshot>
     ensures { MatchOption result (snapshot_present img.now (slot token.address) ≡ 1 → ⊥) (λ s. (snapshot_present img.now (slot token.address) ≡ 1) × (s.sequence ≡ snapshot_ledger img.now (slot token.address)) × (biased s.balance ≡ snapshot_holding img.now (slot token.address))) }
 {
     let at = snapshot_at(token);
-    if fields::get32(img, at) != 1 {
-        return None;
-    }
-    Some(Snapshot {
+    (fields::get32(img, at) == 1).then_some(Snapshot {
         sequence: fields::get32(img, at + 4),
         balance: amount::read_amount(img, at + 8),
     })

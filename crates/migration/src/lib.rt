@@ -30,7 +30,7 @@ fn proposal_check(to: u8, time: u64) -> Result<u64, Refusal>
         .ok_or(Refusal::ArithmeticOverflow)
 }
 
-// 1, 3, 22; 14, 7.
+// 1, 3, 22; 14, 7. Written field by field, as the definition puts them; a writer of an `Option` would match and put the same.
 pub fn initiate_emergency_migration(img: &mut Image, head: Head, events: &mut Buffer) -> Answer
     ensures { Does (initiate_outcome img.old head.caller.number head.signers head.other.number head.timestamp) result img.new events.new }
 {
