@@ -112,9 +112,6 @@ module _ (cells : ℕ) (j : List ℕ) (g : good_journal cells j ≡ true) (k : �
       sane_at cells (contents_of j).calls 0 0 (take (k - 1) es) (get_or es (k - 1) none) (drop (suc (k - 1)) es)
       (rw (← drop-cons es (k - 1) none (omega arith), take-append-drop (k - 1) es) (good_order cells j g))
 
-  pub in_journal : 24 * k + 24 ≤ length j
-  in_journal = let r = good_room cells j g in omega arith
-
   -- the cell is one of the image's
   pub in_image : 16 * le 2 j (24 * k) + 16 ≤ 16 * cells
   in_image = let b = sane.below in let c = read_cell j k h l in omega arith

@@ -4,8 +4,8 @@ use mathlib.Core.Bool.{Bool, true}
 use mathlib.Core.List.{List, [], ◌∷◌, ◌++◌, append_assoc}
 use Prim.Native.Nat.{ℕ, suc, ◌+◌, ◌*◌, ◌-◌, ◌/◌, ◌%◌, ◌≤◌, ◌<◌}
 use native.Mathlib.Omega.{arith}
-use lib.ListN.{length, take, drop, replicate, length-append, length-replicate, replicate-append-replicate, length-take, length-drop}
-use lib.Seq.{take_at, drop_at, drop-drop}
+use lib.ListN.{length, take, drop, replicate, length-append, length-replicate, replicate-append-replicate}
+use lib.Seq.{take_at, drop_at}
 use Rattle.fields.specs.Bytes.{put}
 use Rattle.journal.specs.Journal.{Entry, head_bytes_of, entry_bytes, entries_bytes, layout, ordered}
 use Rattle.journal.proofs.Written.{order_out, length_entries}
@@ -80,14 +80,3 @@ counted len c n c' n' o es hc hn =
     let e : c' / 256 % 256 ≡ c' / 256 = omega arith in
     let f : n' / 256 % 256 ≡ n' / 256 = omega arith in
     rw (e, f)
-
--- a part that came back all zero
-pub cleared : (from to : ℕ) (j ys : List ℕ) → from ≤ to → 24 * suc to ≤ length j → ys ≡ nul (length (take (24 * (to + 1) - 24 * (from + 1)) (drop (24 * (from + 1)) j)))
-    → take (24 * (from + 1)) j ++ (ys ++ drop (24 * (to + 1) - 24 * (from + 1)) (drop (24 * (from + 1)) j))
-    ≡ take (24 * suc from) j ++ (nul (24 * (to - from)) ++ drop (24 * suc to) j)
-cleared from to j ys h k e =
-    let a : 24 * (from + 1) ≡ 24 * suc from = omega arith in
-    let m : 24 * (to + 1) - 24 * suc from ≡ 24 * (to - from) = omega arith in
-    let b : 24 * suc from + 24 * (to - from) ≡ 24 * suc to = omega arith in
-    let l : length (take (24 * (to - from)) (drop (24 * suc from) j)) ≡ 24 * (to - from) = simp (length-take, length-drop) (omega arith) in
-    rw (e, a, m, l, drop-drop (24 * (to - from)) (24 * suc from) j, b)

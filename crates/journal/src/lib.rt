@@ -150,6 +150,7 @@ pub fn commit(journal: &mut [u8]) -> Result<(), Refusal>
 }
 
 // Puts the entries behind the first `from` back into the image, the last one first.
+// By numbers and not by the slice of entries: the clause speaks of the journal's entries behind the first `from`; `cells` is read by the clauses alone.
 #[tactic(auto, using(crate::proofs::Written::good_room, crate::proofs::Written::good_short))]
 fn put_back(image: &mut [u8], journal: &[u8], cells: usize, from: usize, count: usize)
     requires good_over { GoodOver cells image.old journal.now }
@@ -194,6 +195,7 @@ fn write_counts(journal: &mut [u8], counts: Counts)
     fields::put16(journal, 4, counts.entries as u16);
 }
 
+// `cells` is the number for which the journal is good, here and in `undo`: the definitions name it.
 #[tactic(auto, using(crate::proofs::Written::good_long, crate::proofs::States::rolled_open, crate::proofs::States::rolled_closed, refusal::specs::Laws::some_number))]
 pub fn rollback(image: &mut [u8], journal: &mut [u8], cells: usize) -> Result<(), Refusal>
     requires { GoodOver cells image.old journal.old }
@@ -293,6 +295,7 @@ const STRETCH: usize = 16;
 const STRETCH_BYTES: usize = 256;
 
 // `enter_span` of a whole image, stretch by stretch; one that is the same in both images is passed over.
+// Two images and their number of cells, here, in `enter_behind` and in `enter`: a struct of them would be made for one call.
 pub fn enter_cells(old: &[u8], new: &[u8], places: &mut [u8], cells: usize, call: u16) -> usize
     requires { Cells cells 0 call old.now new.now }
     ensures { Finds cells call old.now new.now places.old result places.new }

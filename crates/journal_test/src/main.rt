@@ -12,6 +12,7 @@ fn print_answer(rt: &impl Print, answer: Result<(), Refusal>) -> io::Result<()> 
     println!(rt; "{}", refusal::number(&answer))
 }
 
+// Bytes as decimals with a space behind each: there is no `Display` of a slice.
 fn print_bytes(rt: &impl Print, bytes: &[u8]) -> io::Result<()> {
     for byte in bytes {
         print!(rt; "{byte} ")?;
@@ -59,9 +60,7 @@ fn undo(image: &mut [u8], journal: &mut [u8]) -> Result<(), Refusal> {
 fn store(image: &mut [u8], journal: &mut [u8], at: usize, x: u8) -> Result<(), Refusal> {
     check_image(image)?;
     check_journal(journal)?;
-    if at >= 64 {
-        return Err(Refusal::InvalidRecord);
-    }
+    refusal::refuse_if(at >= 64, Refusal::InvalidRecord)?;
     let mut new = [0u8; 64];
     new.copy_from_slice(image);
     new[at] = x;

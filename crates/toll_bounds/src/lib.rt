@@ -106,6 +106,7 @@ fn holdings_of(image: &Image, t: u8, amounts: &[u8], tolls: Range) -> Result<Ran
 }
 
 // 30, 46, 4, 7; or the least and the greatest holding.
+// The request as C passes it: each check reads another part.
 #[tactic(auto, using(crate::proofs::Whole::refused_30, storage::specs::Facts::facts))]
 pub fn toll_bounds(image: &[u8], token: u8, amounts: &[u8], tolls: Range) -> Result<Range, Refusal>
     ensures { HoldingsAre (toll_bounds image.now token amounts.now (biased tolls.least) (biased tolls.greatest)) result }
