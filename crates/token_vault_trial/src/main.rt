@@ -170,6 +170,7 @@ fn write_records<O: Write>(output: &mut O, asked: Records) -> io::Result<u64>
 }
 
 // Every byte of standard error goes through here, and all of them are the line of a fault.
+#[tactic(auto, using(streams::specs::Lines::known_line))]
 fn write_fault_line<E: Write, D: fmt::Display>(
     error: &mut E,
     line: &D,
