@@ -1,11 +1,12 @@
 -- The comparisons of two amounts are those of their numbers.
-use Rattle.std.specs.Prelude.{not, ◌≡◌, ℕ, ◌<◌, ◌≤◌, Bool, true, false, cond, pos, FitsSigned, int_lt, nat_lt, refl}
+use Rattle.std.specs.Prelude.{not, eqb, ◌≡◌, ℕ, ◌<◌, ◌≤◌, Bool, true, false, cond, pos, FitsSigned, int_lt, nat_lt, refl}
 use Rattle.std.proofs.Common.{ap, ◌∙◌, sym, add-zero, Less, Equal, Greater, arith, lit<, lt-ltb, le-ltb, ltb-true, ltb-false}
 use Rattle.std.specs.Int.{w128}
 use Rattle.std.specs.Ordering.{is_lt, is_gt, int_cmp, int_eq}
 use Rattle.amount.specs.declared.Amount.{Amount}
 use Rattle.amount.specs.Biased.{bias, biased_integer, biased}
 use Rattle.std.proofs.lemmas.Bool.{not-false}
+use borrow.Author.Tests.{eq-eqb, ne_eqb}
 use Rattle.std.proofs.lemmas.Bool.Decides.{Decides-int_eq}
 use Rattle.std.proofs.Math.IntN.{sub_ℕ}
 use Rattle.amount.specs.Laws.{by_lt, integer-biased, biased_from}
@@ -72,3 +73,12 @@ module _ {t : Bool} (a b : Amount) (f : FitsSigned w128 a.0) (g : FitsSigned w12
       let w : ◌≡◌ {A = Bool} (not true) true = rw same at z in
       let n : ◌≡◌ {A = ℕ} 0 1 = cc in
       omega arith
+
+module _ (a b : Amount) (f : FitsSigned w128 a.0) (g : FitsSigned w128 b.0) where
+  -- what `!=` answers
+  pub ne_is : not (int_eq a.0 b.0) ≡ not (eqb (biased a) (biased b))
+  ne_is = go (not (int_eq a.0 b.0)) refl
+    where
+      go : (t : Bool) → not (int_eq a.0 b.0) ≡ t → not (int_eq a.0 b.0) ≡ not (eqb (biased a) (biased b))
+      go true e = e ∙ sym (ap not (ne_eqb (biased a) (biased b) (ne_true a b f g refl e)))
+      go false e = e ∙ sym (ap not (eq-eqb (biased a) (biased b) (ne_false a b f g refl e)))

@@ -3,7 +3,7 @@ use Rattle.std.proofs.Common.{◌≡◌, ℕ, zero, suc, ◌+◌, ◌-◌, ◌*�
 use native.Mathlib.Nat.{mul-mod_left}
 use lib.Bits.{bit_or, bit_xor, or_shifted_r}
 use lib.Pow.{mod-pow-add, shl-shr}
-use Rattle.std.specs.Int.{w32, w64, to_be_bytes}
+use Rattle.std.specs.Int.{w64, to_be_bytes}
 use Rattle.std.proofs.Math.Nat.{div-div-eq-div-mul}
 use Rattle.sha256.specs.Sha256.{State, rotate_right, big_sigma0, big_sigma1, small_sigma0, small_sigma1, constants, initial, bytes_of, padding, padded, block, word_at, words, next_word, with_next, extended, schedule, temporary1, temporary2, round, rounds, sum, compress, blocks, bytes_of_words, digest, sha256}
 use Rattle.sha2.specs.Sha256 as kit
@@ -177,10 +177,6 @@ same_blocks zero s p f t = refl
 same_blocks (suc n) s p f t =
     rw (same_blocks n s p f t, mul_comm n 64)
     (same_compress (take 64 (drop (64 * n) p)) (blocks n s p) (below_take 256 64 (drop (64 * n) p) (omega arith) (below_drop 256 (64 * n) p f)) (blocks_fit n s p t))
-
-word_bytes : (x : ℕ) → to_be_bytes w32 x ≡ bytes_of 4 x
-unfolding bytes_of
-word_bytes x = simp div-div-eq-div-mul
 
 length_bytes : (x : ℕ) → to_be_bytes w64 x ≡ bytes_of 8 x
 unfolding bytes_of

@@ -2,7 +2,7 @@
 // Where they are wrong, a line with a number goes to standard error and nothing to standard output; the exit status is 0 all the same.
 #![tactic(auto)]
 
-ghost use Rattle.std.specs.Prelude.{◌≡◌, ◌++◌, ◌+◌, ◌^◌, ◌<◌, ◌≤◌, length, Some, IfOk, OnOk};
+ghost use Rattle.std.specs.Prelude.{◌≡◌, ◌+◌, ◌<◌, ◌≤◌, Some, IfOk, OnOk};
 ghost use Rattle.std.specs.Io.KnownBytes.{Appends};
 ghost use Rattle.std.specs.Fmt.{with_newline};
 ghost use Rattle.trial_records.specs.Trial.{records_from, reached_from};
@@ -170,6 +170,7 @@ fn write_records<O: Write>(output: &mut O, asked: Records) -> io::Result<u64>
 }
 
 // Every byte of standard error goes through here, and all of them are the line of a fault.
+#[tactic(auto, using(streams::specs::Lines::known_line))]
 fn write_fault_line<E: Write, D: fmt::Display>(
     error: &mut E,
     line: &D,

@@ -3,7 +3,6 @@
 #![tactic(auto)]
 
 ghost use Rattle.std.specs.Prelude.{◌≡◌, ◌+◌, ◌*◌, ◌/◌, ◌%◌, ◌^◌, ◌<◌, ◌≤◌, length};
-ghost use Rattle.fields.specs.Bytes.{put};
 ghost use Rattle.refusal.specs.Numbers.{code};
 ghost use Rattle.trial_records.specs.Generator.{next, draw, steps};
 ghost use Rattle.trial_records.specs.Trial.{draws_from, laid, head_fields, trial_fields, trial_record, reached_from, records_from, trial_number, trial, TrialIs, reached_or};
