@@ -130,12 +130,12 @@ pub fn call_without_journal(image: &mut [u8], record: &[u8], events: &mut [u8]) 
     call(image, &mut journal, record, events)
 }
 
-// A view reads the image, any other operation runs on a copy of it.
 #[tactic(auto, using(crate::proofs::Called::looked))]
 fn preview_operation(image: &Image, parsed: Parsed<'_>, events: &mut Buffer) -> Answer
     requires { Good image.now }
     ensures { Answers (op image.now parsed.entry.rec.now events.old).answer result events.new }
 {
+    // A view reads the image, anything else needs the copy: one arm each.
     match parsed.head.operation {
         Operation::View(view) => run_view(image, view, parsed.head, events),
         _ => {

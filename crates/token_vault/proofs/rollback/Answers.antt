@@ -2,6 +2,7 @@
 use Rattle.token_vault.proofs.Called.{state_refused, rolled_back_step}
 use Rattle.token_vault.proofs.rollback.Goals as goal
 
+-- tried by attribute: the search does not find it
 pub returns-in_err-state_check : goal.returns-in_err-state_check
 returns-in_err-state_check c = state_refused _ _ _ _ _ c.good_image-is_image_good.ensures c.in_err-state_check.ensures c.from_residual.ensures
 
