@@ -1,5 +1,5 @@
 -- The steps of a deposit, from what the functions called say.
-use Rattle.std.specs.Prelude.{[], ◌∷◌, Bool, true, false, not, ◌||◌, eqb, leb, ltb, FitsSigned, Option, Some, None, Result, IfOk}
+use Rattle.std.specs.Prelude.{[], ◌∷◌, Bool, true, false, not, ◌||◌, leb, ltb, FitsSigned, Option, Some, None, Result, IfOk}
 use Rattle.std.specs.Option.{ok_or}
 use Rattle.refusal.specs.Numbers.{code}
 use Rattle.refusal.specs.declared.Refusal.{Refusal}
@@ -7,14 +7,14 @@ use Rattle.refusal.specs.declared.Refusal.TheVariants.{ArithmeticOverflow}
 use Rattle.amount.specs.Laws.{over_high, valued, sum-biased}
 use Rattle.std.proofs.Common.{Ordering, Less, Equal, Greater}
 use Rattle.std.specs.Int.{w128}
-use Rattle.std.specs.Ordering.{is_lt, is_ge, int_cmp, int_eq}
-use mathlib.Core.Path.{◌≡◌, refl, sym, ap, ◌∙◌}
+use Rattle.std.specs.Ordering.{is_lt, is_ge, int_cmp}
+use mathlib.Core.Path.{◌≡◌, refl, ap, ◌∙◌}
 use Prim.Native.Nat.{ℕ, ◌+◌, ◌-◌, ◌≤◌}
 use native.Mathlib.Omega.{arith}
-use borrow.Author.Tests.{lt-ltb, le-ltb, eq-eqb, ne_eqb}
+use borrow.Author.Tests.{lt-ltb, le-ltb}
 use Rattle.amount.specs.declared.Amount.{Amount}
 use Rattle.amount.specs.Biased.{bias, biased, in_range}
-use Rattle.amount.specs.Order.{less_is, ne_true, ne_false}
+use Rattle.amount.specs.Order.{less_is}
 use Rattle.checks.specs.Passed.{not_above}
 use Rattle.fields.specs.Rules.{pick, Guard, test, when, verdict, stop_at}
 use Rattle.deposits.specs.Deposit.{overflow_rules, overflow_number}
@@ -27,14 +27,6 @@ not_less Greater = refl
 -- what `>=` answers of two amounts
 pub ge_is : (a b : Amount) → FitsSigned w128 a.0 → FitsSigned w128 b.0 → is_ge (int_cmp a.0 b.0) ≡ leb (biased b) (biased a)
 ge_is a b f g = not_less (int_cmp a.0 b.0) ∙ ap not (less_is a b f g) ∙ not_above (biased a) (biased b)
-
--- what `!=` answers of two amounts
-pub ne_is : (a b : Amount) → FitsSigned w128 a.0 → FitsSigned w128 b.0 → not (int_eq a.0 b.0) ≡ not (eqb (biased a) (biased b))
-ne_is a b f g = go (not (int_eq a.0 b.0)) refl
-  where
-    go : (t : Bool) → not (int_eq a.0 b.0) ≡ t → not (int_eq a.0 b.0) ≡ not (eqb (biased a) (biased b))
-    go true e = e ∙ sym (ap not (ne_eqb (biased a) (biased b) (ne_true a b f g refl e)))
-    go false e = e ∙ sym (ap not (eq-eqb (biased a) (biased b) (ne_false a b f g refl e)))
 
 -- three rules of one number: a, b and c are their tests
 pub any_of : {a b c : Bool} (f g h : Guard) (n : ℕ) → a ≡ test f → b ≡ test g → c ≡ test h → pick ((a || b) || c) n 0 ≡ verdict (when f n ∷ when g n ∷ when h n ∷ [])

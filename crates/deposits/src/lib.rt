@@ -44,7 +44,7 @@ fn checked_sum(a: Amount, n: Amount) -> Result<Amount, Refusal>
 }
 
 // 12: the vault's holding is not the one expected.
-#[tactic(auto, unfolding(fields::specs::Rules::verdict, crate::specs::Deposit::expected_number), using(crate::proofs::Steps::ne_is))]
+#[tactic(auto, unfolding(fields::specs::Rules::verdict, crate::specs::Deposit::expected_number), using(amount::specs::Order::ne_is))]
 pub fn expected_check(held: Amount, expected: Amount) -> Result<(), Refusal>
     ensures { code result ≡ expected_number (biased held) (biased expected) }
 {

@@ -1,14 +1,12 @@
 -- The steps of a payout, from what the functions called say.
-use mathlib.Core.Path.{◌≡◌, refl, sym, ap, ◌∙◌}
+use mathlib.Core.Path.{◌≡◌, refl, sym, ◌∙◌}
 use mathlib.Core.Bool.{Bool, true, false}
 use mathlib.Core.List.{List, [], ◌∷◌}
 use Prim.Native.Nat.{ℕ, ◌+◌, ◌-◌, ◌≤◌, ◌<◌}
 use native.Mathlib.Omega.{arith}
-use borrow.Author.Tests.{le-leb, lt-leb, eq-eqb, ne_eqb}
-use Rattle.std.specs.Ordering.{int_eq}
-use Rattle.amount.specs.Order.{ne_true, ne_false}
+use borrow.Author.Tests.{le-leb, lt-leb}
 use lib.Dec.{leb}
-use Rattle.std.specs.Prelude.{FitsSigned, not, eqb}
+use Rattle.std.specs.Prelude.{FitsSigned}
 use Rattle.std.specs.Int.{w128}
 use Rattle.std.proofs.Common.{Result}
 use Rattle.amount.specs.declared.Amount.{Amount}
@@ -74,14 +72,6 @@ unfolding withdraw_checks chain or_else
 one_checks l caller signers to a b e = rw (one_none (payout to (biased a)) [], one-sum to (biased a), ← one_item to (biased a) (biased_below a b) refl) e
 
 -- ---- the transfer and what it leaves
--- what `!=` answers of two amounts
-pub ne_is : (a b : Amount) → FitsSigned w128 a.0 → FitsSigned w128 b.0 → not (int_eq a.0 b.0) ≡ not (eqb (biased a) (biased b))
-ne_is a b f g = go (not (int_eq a.0 b.0)) refl
-  where
-    go : (t : Bool) → not (int_eq a.0 b.0) ≡ t → not (int_eq a.0 b.0) ≡ not (eqb (biased a) (biased b))
-    go true e = e ∙ sym (ap not (ne_eqb (biased a) (biased b) (ne_true a b f g refl e)))
-    go false e = e ∙ sym (ap not (eq-eqb (biased a) (biased b) (ne_false a b f g refl e)))
-
 module _ (l : List ℕ) (t to n : ℕ) where
   pub had : {h : ℕ} → 0 ≡ transfer_number l t 1 to n → h ≡ holding l (slot t) 1 → n ≤ h
   had e f = let g = (transfer_free l t 1 to n e refl).1.1.1.0 in omega arith

@@ -22,7 +22,7 @@ use outcome::{Answer, Done};
 use record::{Head, Items};
 use refusal::Refusal;
 
-// A payout that the checks have passed: to whom, and how much.
+// An item whose amount the checks have found above 0; `Item` itself holds any amount.
 #[derive(Clone, Copy)]
 struct Payout {
     to: Address,
@@ -64,7 +64,7 @@ impl Withdrawal {
     }
 
     // 23; 13.
-    #[tactic(auto, unfolding(fields::specs::Rules::chain, fields::specs::Rules::or_else, fields::specs::Rules::verdict, crate::specs::Payouts::remaining_number, crate::specs::Payouts::pay_number), using(crate::proofs::Steps::had, crate::proofs::Steps::sent_is, crate::proofs::Steps::ne_is, refusal::specs::Laws::on_ok))]
+    #[tactic(auto, unfolding(fields::specs::Rules::chain, fields::specs::Rules::or_else, fields::specs::Rules::verdict, crate::specs::Payouts::remaining_number, crate::specs::Payouts::pay_number), using(crate::proofs::Steps::had, crate::proofs::Steps::sent_is, amount::specs::Order::ne_is, refusal::specs::Laws::on_ok))]
     fn send(self, img: &mut Image, due: Payout) -> Result<(), Refusal>
         requires { Good img.old }
         ensures value { code result ≡ pay_number img.old self.token.address due.to.number (biased due.amount) }
