@@ -1,4 +1,4 @@
--- `batch_deposits::Batch::transfer_items` meets its contract.
+-- `batch_deposits::Batch::transfer_items` meets its contract. By hand: the invariant holds a list, which the search does not guess.
 use mathlib.Core.Path.{refl, ◌∙◌}
 use Rattle.batch_deposits.proofs.Loops.{stops, goes_on, ends}
 use Rattle.refusal.specs.Laws.{code_passed, some_number}

@@ -1,4 +1,4 @@
--- `payouts::Withdrawal::pay_items` meets its contract.
+-- `payouts::Withdrawal::pay_items` meets its contract. By hand: the invariant holds a list, which the search does not guess.
 use Rattle.payouts.proofs.Loops.{pay_ends, pay_stops, pay_goes_on}
 use Rattle.payouts.proofs.Steps.{passed_pays}
 use Rattle.refusal.specs.Laws.{some_number}
