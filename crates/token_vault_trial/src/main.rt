@@ -29,7 +29,7 @@ fn read_decimal(text: &[u8]) -> Option<u64>
     if text.len() > 1 && text[0] == b'0' {
         return None;
     }
-    // By `let`: of `ok()?` the proof has no word on why there is no text, and needs laws of its own for it.
+    // By `let`: after `ok()?` the proof needs laws of its own for what `from_utf8` says of its answer.
     let Ok(text) = str::from_utf8(text) else {
         return None;
     };
