@@ -15,21 +15,21 @@ ghost use Rattle.events.specs.Splice.{amount_bytes};
 ghost use Rattle.outcome.specs.Outcome.{value_of, count_of};
 ghost use Rattle.refusal.specs.Numbers.{code};
 
+use amount::Amount;
 use outcome::{Answer, Done};
+use toll_bounds::Range;
 
 // An answer as C gets it: value and event count are written out, and the number is returned.
 #[tactic(auto, using(events::specs::Splice::put_amount_whole))]
 fn write_answer(answer: Answer, value: &mut [u8; 16], event_count: &mut u32) -> u32
     ensures { (result ≡ code answer) × (value.new ≡ amount_bytes (value_of answer)) × (event_count.new ≡ count_of answer) }
 {
+    // A refusal is written with value 0 and no event, here as bytes.
     let done = answer.unwrap_or(Done::new(0));
     amount::write_amount(value, 0, done.value);
     *event_count = u32::from(done.events);
     refusal::number(&answer)
 }
-
-use amount::Amount;
-use toll_bounds::Range;
 
 // The holdings that are written for a refusal.
 const NO_HOLDINGS: Range = Range {

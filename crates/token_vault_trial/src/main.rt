@@ -29,6 +29,7 @@ fn read_decimal(text: &[u8]) -> Option<u64>
     if text.len() > 1 && text[0] == b'0' {
         return None;
     }
+    // By `let`: after `ok()?` the proof needs laws of its own for what `from_utf8` says of its answer.
     let Ok(text) = str::from_utf8(text) else {
         return None;
     };
@@ -43,6 +44,7 @@ fn read_argument<E: Env>(env: &E, i: usize) -> Option<u64> {
 }
 
 // How many arguments there are, the program's own name among them. One that does not fit the buffer is one too.
+// By number: there is no end to the arguments but the first that is not there, and `position` would hold the buffer in its closure.
 fn count_arguments<E: Env>(env: &E) -> usize {
     let mut text = [0u8; 20];
     for i in 0..usize::MAX {

@@ -417,6 +417,7 @@ fn all_lists<I: Read, O: Write>(input: &mut I, output: &mut O) -> TakenLists
 }
 
 // Every byte of standard error goes through here, and all of them are the line of a fault that a list has.
+#[tactic(auto, using(streams::specs::Lines::known_line))]
 fn write_fault_line<E: Write, D: fmt::Display>(
     error: &mut E,
     line: &D,

@@ -21,6 +21,7 @@ use std::io::{Read, Write};
 pub fn printed(answer: outcome::Answer) -> Answer
     ensures { (result.number ≡ code answer) × (value result.value ≡ signed_at (amount_bytes (value_of answer))) × (result.events ≡ count_of answer) }
 {
+    // A refusal is written with value 0 and no event, here as text.
     let done = answer.unwrap_or(Done::new(0));
     Answer {
         number: refusal::number(&answer),
@@ -38,6 +39,7 @@ pub fn answer_record(image: &mut [u8], record: &[u8]) -> Answer
 }
 
 // Every byte of the output goes through here, and all of them are lines of answers.
+#[tactic(auto, using(crate::proofs::Lines::line_end, streams::specs::Lines::same_line))]
 fn write_answer_line<O: Write>(output: &mut O, answer: &Answer) -> io::Result<()>
     requires { IsLine (text_of answer.now) }
     ensures { OnOk result (Appends (O.contents output.old) (O.contents output.new) (text_of answer.now)) }
@@ -45,6 +47,7 @@ fn write_answer_line<O: Write>(output: &mut O, answer: &Answer) -> io::Result<()
     streams::print_line::<160, _, _>(output, answer)
 }
 
+#[tactic(auto, using(streams::specs::Lines::same_line))]
 fn print_answer<O: Write>(output: &mut O, image: &mut [u8], record: &[u8]) -> io::Result<()>
     ensures carried { image.new ≡ (record_step image.old «record».now).state.image }
     ensures printed { OnOk result (Appends (O.contents output.old) (O.contents output.new) (answer_line (record_step image.old «record».now).answer)) }
@@ -54,6 +57,7 @@ fn print_answer<O: Write>(output: &mut O, image: &mut [u8], record: &[u8]) -> io
 }
 
 // Answers what was read of a record. Where nothing was there is no line.
+#[tactic(auto, using(crate::proofs::Taken::text_all, streams::specs::Lines::same_line))]
 fn answer_read<O: Write>(output: &mut O, image: &mut [u8], record: &[u8]) -> io::Result<()>
     ensures answered { AnswersRead image.old «record».now (length «record».now) (read_text image.old «record».now (length «record».now)) image.new }
     ensures printed { OnOk result (Appends (O.contents output.old) (O.contents output.new) (read_text image.old «record».now (length «record».now))) }

@@ -1,8 +1,6 @@
 -- `answer_read` meets its contract.
-use Rattle.std.proofs.Common.{ℕ, ◌<◌, List, sym, ◌∙◌, subst, arith, length}
+use Rattle.std.proofs.Common.{◌<◌, sym, ◌∙◌, arith, length}
 use borrow.Author.Tests.{eqb-true, eqb-false}
-use Rattle.std.specs.Result.{OnOk}
-use Rattle.std.specs.Io.KnownBytes.{Appends}
 use Rattle.std.proofs.KnownBytes.{Appends-nil}
 use Rattle.vault_program.proofs.Taken.{text_none, text_all, read_none, read_all}
 use Rattle.vault_program.proofs.answer_read.Goals as goal
@@ -22,11 +20,3 @@ returns-clause-answered g c =
     let n = eqb-false (length c.args.«record».now) 0 (sym c.is_empty.ensures ∙ c.if-is_empty.false) in
     let h : 0 < length c.args.«record».now = omega arith in
     read_all _ _ h (record { printed = sym (text_all _ _ h); carried = c.print_answer.ensures.carried })
-
-pub returns-clause-printed : goal.returns-clause-printed
-returns-clause-printed g c =
-    let x = c.args in
-    let n = eqb-false (length x.«record».now) 0 (sym c.is_empty.ensures ∙ c.if-is_empty.false) in
-    let h : 0 < length x.«record».now = omega arith in
-    subst (λ (t : List ℕ). OnOk c.print_answer.result (Appends (g.O.Write.contents x.output.now) (g.O.Write.contents c.print_answer.new.output) t))
-    (text_all x.image.now x.«record».now h) c.print_answer.ensures.printed
