@@ -50,9 +50,9 @@ named l r h o z f e = go o e (sym (ap operation_number e) ∙ f.operation)
     go (View IsTokenApproved) e n = rw (head_token r h _ z f e refl, ← n) refl
     go (View IsTokenCompliant) e n = rw (head_token r h _ z f e refl, ← n) refl
 
-pub operation_does : (l r : List ℕ) (h : Head) (o : Operation) {image events : List ℕ} {x : Answer} → form_number r ≡ 0 → HeadOf r h → h.operation ≡ o → Does (outcome_by o l r h) x image events
+pub operation_does : (l r : List ℕ) (h : Head) {image events : List ℕ} {x : Answer} → form_number r ≡ 0 → HeadOf r h → Does (outcome_by h.operation l r h) x image events
     → Does (outcome_of l r) x image events
-operation_does l r h o z f e d = rw (← named l r h o z f e) d
+operation_does l r h z f d = rw (← named l r h h.operation z f refl) d
 
 pub viewed : (l r : List ℕ) (h : Head) (v : _) → form_number r ≡ 0 → HeadOf r h → h.operation ≡ View v → view_outcome v l h.token.number h.caller.number ≡ outcome_of l r
 viewed l r h v z f e = named l r h (View v) z f e
@@ -68,6 +68,6 @@ views_do GetTokenAccountBalance l t a d = does d
 views_do IsTokenApproved l t a d = does d
 views_do IsTokenCompliant l t a d = does d
 
-pub view_does : (r : List ℕ) (h : Head) (v : _) {l events : List ℕ} {x : Answer} → form_number r ≡ 0 → HeadOf r h → h.operation ≡ View v → events ≡ event_buffer [] → Views (view_outcome v l h.token.number h.caller.number) x
-    → Does (outcome_of l r) x l events
-view_does r h v {l} z f e b d = rw (← viewed l r h v z f e, b) (views_do v l h.token.number h.caller.number d)
+-- a view leaves the image, and a buffer that is clear
+pub look_does : (v : _) (t a : ℕ) {l events : List ℕ} {x : Answer} → events ≡ event_buffer [] → Views (view_outcome v l t a) x → Does (view_outcome v l t a) x l events
+look_does v t a {l} b d = rw b (views_do v l t a d)

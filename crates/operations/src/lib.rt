@@ -1,9 +1,9 @@
 // The operations by their names: `operate` runs any of them, `look` a view alone.
-#![tactic(auto, unfolding(record::specs::Form::reads_items, record::specs::Form::member), using(crate::specs::Laws::view_does))]
+#![tactic(auto, unfolding(record::specs::Form::reads_items, record::specs::Form::member), using(crate::specs::Laws::look_does))]
 
 ghost use Rattle.storage.specs.Facts.{Good};
 ghost use Rattle.outcome.specs.Outcome.{Does, Views};
-ghost use Rattle.operations.specs.Operations.{outcome_of, view_outcome};
+ghost use Rattle.operations.specs.Operations.{outcome_of, outcome_by, view_outcome};
 
 use batch_deposits::batch_deposit;
 use deposits::deposit_with_failure_report;
@@ -16,10 +16,17 @@ use outcome::Answer;
 use record::{Head, Operation, Parsed, View};
 use settings::set_operator_withdraw_limit;
 
-// One arm a call, each to a function with a contract of its own: a match is the plainer table of functions.
 pub fn operate(img: &mut Image, parsed: Parsed<'_>, events: &mut Buffer) -> Answer
     requires { Good img.old }
     ensures { Does (outcome_of img.old parsed.entry.rec.now) result img.new events.new }
+{
+    operate_by_name(img, parsed, events)
+}
+
+// One arm a call, each to a function with a contract of its own: a match is the plainer table of functions.
+fn operate_by_name(img: &mut Image, parsed: Parsed<'_>, events: &mut Buffer) -> Answer
+    requires { Good img.old }
+    ensures { Does (outcome_by parsed.entry.head.operation img.old parsed.entry.rec.now parsed.entry.head) result img.new events.new }
 {
     let head = parsed.head;
     match head.operation {
