@@ -174,7 +174,7 @@ impl CallHead {
 
 // A buffer that is not read to its end has the fault `cut`.
 fn read_whole<I: Read>(input: &mut I, buffer: &mut [u8], cut: Fault) -> Result<(), Fault>
-    ensures { ReadsWhole (length buffer.new) (number_of cut) (code result) }
+    ensures { ReadsWhole (I.remaining input.old) (I.remaining input.new) buffer.new (number_of cut) (code result) }
 {
     if streams::read_full(input, buffer) != buffer.len() {
         return Err(cut);
@@ -184,7 +184,7 @@ fn read_whole<I: Read>(input: &mut I, buffer: &mut [u8], cut: Fault) -> Result<(
 
 // A record is read where nothing is wrong with the head.
 fn read_call<I: Read>(input: &mut I, record: &mut [u8; 512]) -> Result<CallHead, Fault>
-    ensures { ReadsCall result }
+    ensures { ReadsCall (I.remaining input.old) (I.remaining input.new) «record».new result }
 {
     let mut bytes = [0u8; 8];
     let n = streams::read_full(input, &mut bytes);
@@ -216,7 +216,7 @@ fn next_call<I: Read, O: Write>(
     journal: &mut [u8],
     buffers: &mut CallBuffers,
 ) -> Result<(), Stop>
-    ensures { TakesCall (vault image.old journal.old) (fault_of result) image.new journal.new (λ line. OnOk result (Appends (O.contents output.old) (O.contents output.new) line)) }
+    ensures { TakesCall (I.remaining input.old) (I.remaining input.new) (vault image.old journal.old) buffers.new.«record» (fault_of result) image.new journal.new (λ line. OnOk result (Appends (O.contents output.old) (O.contents output.new) line)) }
 {
     let CallBuffers { record, events } = buffers;
     let head = read_call(input, record)?;
@@ -252,7 +252,7 @@ fn all_calls<I: Read, O: Write>(
     journal: &mut [u8],
     count: u32,
 ) -> TakenCalls
-    ensures { TakesCalls (vault image.old journal.old) (vault image.new journal.new) count result.taken (fault_of result.ended) (is_written result.ended) }
+    ensures { TakesCalls (I.remaining input.old) (vault image.old journal.old) (vault image.new journal.new) count result.taken (fault_of result.ended) (is_written result.ended) }
 {
     let mut buffers = CallBuffers::new();
     for taken in 0..count {
@@ -274,8 +274,9 @@ fn all_calls<I: Read, O: Write>(
     }
 }
 
+#[tactic(auto, using(crate::proofs::Parsed::image_cut, crate::proofs::Parsed::state_read))]
 fn read_state<I: Read>(input: &mut I, image: &mut [u8], journal: &mut [u8]) -> Result<(), Fault>
-    ensures { ReadsState (vault image.new journal.new) (code result) }
+    ensures { ReadsState (I.remaining input.old) (I.remaining input.new) (vault image.new journal.new) (code result) }
 {
     read_whole(input, image, Fault::ImageCut)?;
     read_whole(input, journal, Fault::JournalCut)
@@ -289,7 +290,7 @@ fn run_list<I: Read, O: Write>(
     journal: &mut [u8],
     count: u32,
 ) -> TakenCalls
-    ensures { RunsList image.new journal.new count result.taken (fault_of result.ended) (is_written result.ended) }
+    ensures { RunsList (I.remaining input.old) image.new journal.new count result.taken (fault_of result.ended) (is_written result.ended) }
 {
     match read_state(input, image, journal) {
         Ok(()) => all_calls(input, output, image, journal, count),
@@ -334,7 +335,7 @@ fn fit_list<I: Read, O: Write>(
     journal: &mut [u8; 48048],
     head: &[u8],
 ) -> TakenCalls
-    ensures { TakesList (length head.now) head.now image.new journal.new result.taken (fault_of result.ended) (is_written result.ended) }
+    ensures { TakesList (I.remaining input.old) (length head.now) head.now image.new journal.new result.taken (fault_of result.ended) (is_written result.ended) }
 {
     match ListHead::parse(head) {
         Ok(head) => {
@@ -353,7 +354,7 @@ fn with_journal<I: Read, O: Write>(
     image: &mut [u8; 36848],
     head: &[u8],
 ) -> TakenCalls
-    ensures { WithJournal (length head.now) head.now image.new result.taken (fault_of result.ended) (is_written result.ended) }
+    ensures { WithJournal (I.remaining input.old) (length head.now) head.now image.new result.taken (fault_of result.ended) (is_written result.ended) }
 {
     let mut journal = [0u8; 48048];
     fit_list(input, output, image, &mut journal, head)
@@ -368,7 +369,7 @@ struct TakenList {
 
 // Where none of the head was read the input ends, and there is no list.
 fn next_list<I: Read, O: Write>(input: &mut I, output: &mut O) -> TakenList
-    ensures { NextList result.head_read result.calls.taken (fault_of result.calls.ended) (is_written result.calls.ended) }
+    ensures { NextList (I.remaining input.old) result.head_read result.calls.taken (fault_of result.calls.ended) (is_written result.calls.ended) }
 {
     let mut head = [0u8; 16];
     let mut image = [0u8; 36848];

@@ -7,9 +7,9 @@ pub returns-in_err-write_step_line : goal.returns-in_err-write_step_line
 returns-in_err-write_step_line g c =
     let e = c.in_ok-head.ensures in
     let r = c.from_residual-in_err-write_step_line.ensures in
-    taken _ e.head e.record_read c.read_call.new.«record» c.in_ok-head.head e.decided e.parsed c.answer_call-line.ensures (no_fault _ _ r) (nothing_said _ _ r.0)
+    taken _ e c.answer_call-line.ensures (no_fault _ _ r) (nothing_said _ _ r.0)
 
 pub returns : goal.returns
 returns g c =
     let e = c.in_ok-head.ensures in
-    taken _ e.head e.record_read c.read_call.new.«record» c.in_ok-head.head e.decided e.parsed c.answer_call-line.ensures refl c.in_ok-write_step_line.ensures
+    taken _ e c.answer_call-line.ensures refl c.in_ok-write_step_line.ensures
