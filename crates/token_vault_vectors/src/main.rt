@@ -1,7 +1,7 @@
 // Replays the vectors of docs/VECTORS.md: lists of calls from standard input, a line a call to standard output. The stored lines are those of the contract's Rust and of the model. At malformed input the run ends with a line to standard error.
 #![tactic(auto)]
 
-ghost use Rattle.std.specs.Prelude.{◌≡◌, ◌++◌, [], ◌∷◌, length, take, replicate, ltb, Some, Err, IfOk, OnOk};
+ghost use Rattle.std.specs.Prelude.{◌≡◌, ◌<◌, ◌++◌, [], ◌∷◌, length, take, replicate, ltb, Some, Err, IfOk, OnOk};
 ghost use Rattle.std.specs.Io.KnownBytes.{Appends};
 ghost use Rattle.std.specs.Fmt.{with_newline};
 ghost use Rattle.fields.specs.Logic.{◌and◌, ◌or◌};
@@ -119,24 +119,24 @@ fn answer_call(
     record: &[u8; 512],
     events: &mut [u8; 1024],
 ) -> StepLine
-    ensures { PrintsStep (request_step (vault image.old journal.old) (asked head.kind (take head.record_length «record».now) (replicate head.events_length head.fill))) (text_of result ++ (10 ∷ [])) image.new journal.new }
+    ensures { PrintsStep (request_step (vault image.old journal.old) (asked head.kind (take head.record_length «record».now) (replicate head.events_length head.fill))) (text_of result ++ (10 ∷ [])) image.new journal.new × (length (text_of result) < 512) }
 {
     let record = &record[..head.record_length];
     let events = &mut events[..head.events_length];
     events.fill(head.fill);
     match head.kind {
         Kind::Operation => vault_vectors::answer_operation(image, journal, record, events),
-        Kind::Transaction(kind) => vault_vectors::answer_transaction(image, journal, kind),
+        Kind::Transaction(kind) => kind.answer(image, journal),
         Kind::Preview => vault_vectors::answer_preview(image, journal, record, events),
     }
 }
 
 // Every byte of standard output goes through here, and all of them are lines of steps.
-fn write_step_line<O: Write>(output: &mut O, line: &StepLine) -> io::Result<()>
-    requires { IsStepLine (text_of line.now ++ (10 ∷ [])) }
-    ensures { OnOk result (Appends (O.contents output.old) (O.contents output.new) (text_of line.now ++ (10 ∷ []))) }
+fn write_step_line<O: Write>(output: &mut O, line: &[u8]) -> io::Result<()>
+    requires { IsStepLine line.now }
+    ensures { OnOk result (Appends (O.contents output.old) (O.contents output.new) line.now) }
 {
-    streams::print_line::<512, _, _>(output, line)
+    output.write_all(line)
 }
 
 impl CallHead {
@@ -220,8 +220,9 @@ fn next_call<I: Read, O: Write>(
 {
     let CallBuffers { record, events } = buffers;
     let head = read_call(input, record)?;
-    let line = answer_call(image, journal, head, record, events);
-    write_step_line(output, &line)?;
+    let answer = answer_call(image, journal, head, record, events);
+    let line = streams::line::<512, _>(&answer)?;
+    write_step_line(output, line.as_str().as_bytes())?;
     Ok(())
 }
 
@@ -418,23 +419,20 @@ fn all_lists<I: Read, O: Write>(input: &mut I, output: &mut O) -> TakenLists
 }
 
 // Every byte of standard error goes through here, and all of them are the line of a fault that a list has.
-#[tactic(auto, using(streams::specs::Lines::known_line))]
-fn write_fault_line<E: Write, D: fmt::Display>(
-    error: &mut E,
-    line: &D,
-    fault: Fault,
-) -> io::Result<()>
-    requires { (with_newline (D.output line.now) ≡ Some (fault_line (number_of fault))) × IsFault (number_of fault) }
+fn write_fault_line<E: Write>(error: &mut E, line: &[u8], fault: Fault) -> io::Result<()>
+    requires { (line.now ≡ fault_line (number_of fault)) × IsFault (number_of fault) }
     ensures { OnOk result (Appends (E.contents error.old) (E.contents error.new) (fault_line (number_of fault))) }
 {
-    streams::print_line::<128, _, _>(error, line)
+    error.write_all(line)
 }
 
+#[tactic(auto, using(streams::specs::Lines::known_line))]
 fn write_fault<E: Write>(error: &mut E, fault: Fault) -> io::Result<()>
     requires { IsFault (number_of fault) }
     ensures { OnOk result (Appends (E.contents error.old) (E.contents error.new) (fault_line (number_of fault))) }
 {
-    write_fault_line(error, &format_args!("token_vault_vectors: {fault}"), fault)
+    let line = streams::line::<128, _>(&format_args!("token_vault_vectors: {fault}"))?;
+    write_fault_line(error, line.as_str().as_bytes(), fault)
 }
 
 fn main(rt: HostRuntime) {
