@@ -44,7 +44,7 @@ pub fn line<const N: usize, D: Display>(value: &D) -> io::Result<InlineText<N>>
     requires fits { IfSome (with_newline (D.output value.now)) (λ text. length text ≤ N) }
     ensures { IfOk result (λ line. IfSome (with_newline (D.output value.now)) (λ text. inline_text line ≡ text)) }
 {
-    match kept(value) {
+    match kept::<N, D>(value) {
         Ok(line) => Ok(line),
         Err(_) => Err(io::Error::other("a line is not whole")),
     }
