@@ -44,7 +44,7 @@ two_words a b at x y u v ha hb la lb ex ey eu ev =
       le_same 8 a b (at + 8) ha hb (omega arith) (omega arith),
     )
 
--- the same of two cells alone
+-- the same of two cells alone, by which the edits of `same_cell` compare words
 pub two_words_alone : (a b : List ℕ) {x y u v : ℕ} → ((i : ℕ) → get_or a i 0 < 256) → ((i : ℕ) → get_or b i 0 < 256) → length a ≡ 16 → length b ≡ 16
     → x ≡ le 8 a 0 → y ≡ le 8 b 0 → u ≡ le 8 a 8 → v ≡ le 8 b 8 → eqb x y and eqb u v ≡ same_bytes_of a b
 two_words_alone a b {x} {y} {u} {v} ha hb la lb ex ey eu ev =

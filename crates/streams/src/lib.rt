@@ -28,7 +28,7 @@ pub fn read_full<R: Read>(reader: &mut R, buf: &mut [u8]) -> usize
     done
 }
 
-// The text of `value` and a line feed, where it is whole.
+// The text of `value` and a line feed; an error where N bytes have no room for it, or where the value's own printing fails.
 fn kept<const N: usize, D: Display>(value: &D) -> Result<InlineText<N>, fmt::Error>
     requires { N ≤ 4096 }
     ensures { IfOk result (λ line. IfSome (with_newline (D.output value.now)) (λ text. inline_text line ≡ text)) }

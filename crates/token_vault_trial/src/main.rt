@@ -4,7 +4,6 @@
 
 ghost use Rattle.std.specs.Prelude.{◌≡◌, ◌+◌, ◌<◌, ◌≤◌, Some, IfOk, OnOk};
 ghost use Rattle.std.specs.Io.KnownBytes.{Appends};
-ghost use Rattle.std.specs.Fmt.{with_newline};
 ghost use Rattle.trial_records.specs.Trial.{records_from, reached_from};
 ghost use Rattle.token_vault_trial.specs.Arguments.{read_decimal, fault_text, fault_line};
 ghost use Rattle.token_vault_trial.specs.Run.{reading_of, number_or_zero, number_of, code, fault_of, IsOrder, IsPiece, RunIs};

@@ -144,7 +144,7 @@ fn run_image<I: Read, O: Write>(input: &mut I, output: &mut O, image: &mut [u8])
     all_records(input, output, image)
 }
 
-// How many bytes were read of the image, and the records after a whole one: how many were taken, how many bytes the last read gave, and whether all lines were written.
+// How many bytes were read of the image; and of the records after a whole one, how many were taken and how many bytes the last read gave.
 #[derive(Clone, Copy)]
 pub struct Run {
     pub image_read: usize,
