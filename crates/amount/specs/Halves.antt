@@ -2,7 +2,7 @@
 -- The integer is z * W + lo, and the biased number is the integer plus H * W. `mag z < H` says -H ≤ z < H (`lib.Signed`).
 use Rattle.std.specs.Prelude.{◌≡◌, ℕ, zero, suc, ◌+◌, ◌-◌, ◌*◌, ◌/◌, ◌%◌, ◌<◌, ◌≤◌, Bool, true, false, cond, ◌||◌, ℤ, pos, negsuc, ◌+ℤ◌, ◌-ℤ◌, ◌*ℤ◌, neg_ℤ, int_lt, nat_le, nat_lt, refl}
 use Rattle.std.proofs.Math.Path.{sym, ap}
-use Rattle.std.proofs.Common.{ap₂, ◌∙◌, add-mul, add-zero, mul_comm, div-lt_iff_lt-mul, div-add-mod', mod-eq_of_lt, le-leb, lt-ltb, le-ltb, ltb-true, ltb-false}
+use Rattle.std.proofs.Common.{ap₂, ◌∙◌, add-mul, add-zero, mul_comm, mul-le-mul_right, div-lt_iff_lt-mul, div-add-mod', mod-eq_of_lt, le-leb, lt-ltb, le-ltb, ltb-true, ltb-false}
 use native.Mathlib.Omega.{arith}
 use Rattle.std.proofs.Math.Nat.{sub-zero, mul-add-div_right, mul-add-mod_self_right, div-eq_of_lt}
 use Rattle.std.proofs.Math.IntN.{sub_ℕ, +ℤ_assoc, +ℤ_comm, neg_ℤ-+ℤ, neg_ℤ-neg_ℤ}
@@ -50,7 +50,7 @@ by_lt a b P f g = go (nat_lt a b) refl
     go false e = g (ltb-false a b e)
 
 -- two tests that hold together and fail together are the same test
-ltb_same : (a b c d : ℕ) → (a < b → c < d) → (b ≤ a → d ≤ c) → nat_lt a b ≡ nat_lt c d
+pub ltb_same : (a b c d : ℕ) → (a < b → c < d) → (b ≤ a → d ≤ c) → nat_lt a b ≡ nat_lt c d
 ltb_same a b c d f g = by_lt a b (nat_lt a b ≡ nat_lt c d) (λ h. lt-ltb a b h ∙ sym (lt-ltb c d (f h))) (λ h. le-ltb a b h ∙ sym (le-ltb c d (g h)))
 
 pub by_range : (B n : ℕ) (P : Type 0) → (InRange B n → P) → ((InRange B n → ⊥) → P) → P
@@ -147,6 +147,13 @@ module _ (H : ℕ) where
   biased_half_below (negsuc n) f = omega arith
 
 -- ---- the two halves
+-- the high halves decide the order, and where they are the same the low halves
+pub lex_lt : (W h k x y : ℕ) → h < k → x < W → h * W + x < k * W + y
+lex_lt W h k x y p q = omega (arith, digits_lt p q)
+
+pub lex_same : (W h k x y : ℕ) → h ≡ k → nat_lt x y ≡ nat_lt (h * W + x) (k * W + y)
+lex_same W h k x y e = rw e (ltb_same x y (k * W + x) (k * W + y) (λ l. omega arith) (λ l. omega arith))
+
 -- two halves that make a multiple of W
 pub halves_same : (W a c lo : ℕ) → lo < W → a * W + lo ≡ c * W → (a ≡ c) × (lo ≡ 0)
 halves_same W a c lo b e =
@@ -157,14 +164,41 @@ halves_same W a c lo b e =
     (λ k. absurd (omega (arith, digits_lt k w)))
     (λ k. let f : a ≡ c = omega arith in let g : c * W + lo ≡ c * W = rw f at e in (f, omega arith)))
 
--- what is added to the high half is added to the number
-more_bias : (W H n lo : ℕ) → (H + n) * W + lo ≡ H * W + (n * W + lo)
+-- and the range
+pub high_in_range : (W H s lo : ℕ) → lo < W → InRange H s → InRange (H * W) (s * W + lo)
+high_in_range W H s lo b (h, k) = (omega (arith, mul-le-mul_right W h), rw (← add-mul H H W, ← add-mul (H + H) H W) (digits_lt k b))
+
+pub in_range_high : (W H s lo : ℕ) → lo < W → InRange (H * W) (s * W + lo) → InRange H s
+in_range_high W H s lo b (h, k) =
+    by_lt s H (InRange H s)
+    (λ l. absurd (omega (arith, digits_lt l b)))
+    (λ l. by_lt s (H + H + H) (InRange H s)
+    (λ m. (l, m))
+    (λ m. absurd (omega (arith, mul-le-mul_right W m, add-mul (H + H) H W, add-mul H H W))))
+
+-- what is added to the high half, or taken from it, is added to the number, or taken from it
+pub more_bias : (W H n lo : ℕ) → (H + n) * W + lo ≡ H * W + (n * W + lo)
 more_bias W H n lo = rw (add-mul H n W) (omega arith)
+
+pub less_bias : (W H s lo : ℕ) → H ≤ s → s * W + lo - H * W ≡ (s - H) * W + lo
+less_bias W H s lo h =
+    let u : s - H + H ≡ s = omega arith in
+    let e : (s - H) * W + H * W ≡ s * W = sym (add-mul (s - H) H W) ∙ ap (λ (n : ℕ). n * W) u in
+    omega arith
+
+-- a sum by halves with the carry c, and a difference: the high half of the second is turned over, and c is 1 without a borrow
+pub sum_parts : (W h k c s x y : ℕ) → c * W + s ≡ x + y → (h + k + c) * W + s ≡ h * W + x + (k * W + y)
+sum_parts W h k c s x y e = rw (add-mul (h + k) c W, add-mul h k W) (omega arith)
+
+pub difference_parts : (W H h k k' c s x y : ℕ) → c * W + s + y ≡ x + W → k + k' + 1 ≡ H + H → (h + k' + c) * W + s ≡ h * W + x + (H * W + H * W) - (k * W + y)
+difference_parts W H h k k' c s x y e f =
+    let g : H * W + H * W ≡ k * W + k' * W + 1 * W = sym (add-mul H H W) ∙ ap (λ (n : ℕ). n * W) (sym f) ∙ add-mul (k + k') 1 W ∙ ap (λ (n : ℕ). n + 1 * W) (add-mul k k' W) in
+    rw (add-mul (h + k') c W, add-mul h k' W) (omega (arith, g))
 
 -- ---- the integer
 module _ (W H : ℕ) where
   -- it is the biased number less the bias
-  integer-biased : (z : ℤ) (lo : ℕ) → mag z < H → integer W z lo ≡ sub_ℕ (biased_number W H z lo) (H * W)
+  pub integer-biased : (z : ℤ) (lo : ℕ) → mag z < H → integer W z lo ≡ sub_ℕ (biased_number W H z lo) (H * W)
   unfolding biased_half
   integer-biased (pos n) lo f =
       sym (sub_same ((H + n) * W + lo) (H * W) (n * W + lo) 0 (omega (arith, more_bias W H n lo)) ∙ subℕ_ge (n * W + lo) 0 (omega arith) ∙ ap pos (omega arith))
@@ -173,20 +207,20 @@ module _ (W H : ℕ) where
       let e : suc n * W + (H - suc n) * W ≡ H * W = sym (add-mul (suc n) (H - suc n) W) ∙ ap (λ (k : ℕ). k * W) u in
       neg_sub (suc n * W) lo ∙ sub_same lo (suc n * W) ((H - suc n) * W + lo) (H * W) (omega arith)
 
-  biased_number_below : (z : ℤ) (lo : ℕ) → mag z < H → lo < W → biased_number W H z lo < H * W + H * W
+  pub biased_number_below : (z : ℤ) (lo : ℕ) → mag z < H → lo < W → biased_number W H z lo < H * W + H * W
   biased_number_below z lo f b = rw (← add-mul H H W) (digits_lt (biased_half_below H z f) b)
 
   -- the halves of a biased number have that number
-  biased_halves : (n : ℕ) → biased_number W H (sub_ℕ (n / W) H) (n % W) ≡ n
+  pub biased_halves : (n : ℕ) → biased_number W H (sub_ℕ (n / W) H) (n % W) ≡ n
   biased_halves n = rw (biased_half_sub H (n / W)) (div-add-mod' n W)
 
-  integer_halves : (n : ℕ) → 0 < W → n < H * W + H * W → integer_of W H n ≡ sub_ℕ n (H * W)
+  pub integer_halves : (n : ℕ) → 0 < W → n < H * W + H * W → integer_of W H n ≡ sub_ℕ n (H * W)
   integer_halves n p h =
       let q : n / W < H + H = (div-lt_iff_lt-mul p).1 (rw (add-mul H H W) h) in
       integer-biased (sub_ℕ (n / W) H) (n % W) (sub_fits (n / W) H H (omega arith) q) ∙ ap (λ (k : ℕ). sub_ℕ k (H * W)) (biased_halves n)
 
   -- an integer that is n less twice the bias
-  decides : 0 < W → (n : ℕ) {t : ℤ} → t ≡ sub_ℕ n (H * W + H * W) → Decides W H n t
+  pub decides : 0 < W → (n : ℕ) {t : ℤ} → t ≡ sub_ℕ n (H * W + H * W) → Decides W H n t
   decides p n e =
       let B = H * W in
       record {

@@ -1,4 +1,5 @@
 -- What the contracts cite.
 pub mod Decimal
 pub mod Hexadecimal
+pub mod Lengths
 pub mod Text

@@ -1,7 +1,7 @@
 // The text of an answer, and bytes in hexadecimal digits.
 #![tactic(auto)]
 
-ghost use Rattle.std.specs.Prelude.{[], Some};
+ghost use Rattle.std.specs.Prelude.{◌≡◌, true, [], Some};
 ghost use Rattle.amount.specs.Value.{value};
 ghost use Rattle.answer_line.specs.Decimal.{answer_words};
 ghost use Rattle.answer_line.specs.Hexadecimal.{hexadecimal};
@@ -30,6 +30,13 @@ impl fmt::Display for Answer {
     }
 }
 
+// The digits of a digest, which has 32 bytes; false where there is another number of bytes.
+fn write_digits(bytes: &[u8], digits: &mut [u8; 64]) -> bool
+    ensures { result ≡ true → digits.new ≡ hexadecimal bytes.now }
+{
+    hex::encode_to_slice(bytes, digits).is_ok()
+}
+
 // Two digits a byte.
 #[derive(Clone, Copy)]
 pub struct Hexadecimal<'a>(pub &'a [u8]);
@@ -39,6 +46,13 @@ impl fmt::Display for Hexadecimal<'_> {
 
     fn fmt<W: fmt::Write>(&self, f: &mut fmt::Formatter<W>) -> fmt::Result {
         let bytes = self.0;
+        // The digits of a digest, at once: printed byte by byte, they take most of the time of a line that says little else.
+        let mut digits = [0u8; 64];
+        if write_digits(bytes, &mut digits) {
+            if let Ok(digits) = str::from_utf8(&digits) {
+                return f.write_str(digits);
+            }
+        }
         for &byte in bytes {
             write!(f, "{byte:02x}")?;
         }

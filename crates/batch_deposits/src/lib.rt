@@ -46,9 +46,12 @@ fn item_check(item: Item, signers: u64) -> Result<(), Refusal>
     checks::signed_check(signers, item.address.number)
 }
 
+// What the items came to: the first refusal, or the sum.
+pub type Tally = Result<Amount, Refusal>;
+
 // Item by item 4, 5; 22. Sixteen amounts of at most 10 ^ 30 stay far below 2 ^ 127. The one of `payouts` tests an item and each sum by other rules.
 #[tactic(auto, unfolding(crate::specs::Batch::item_number), using(amount::specs::Order::biased_zero, refusal::specs::Laws::code_passed, refusal::specs::Laws::some_number, fields::specs::Rules::or_go, fields::specs::Rules::or_stop, crate::specs::Laws::item_free, crate::specs::Laws::one_more_fits, crate::specs::Laws::items_end, crate::proofs::Loops::sum_begins, crate::proofs::Loops::number_next, crate::proofs::Loops::sum_next))]
-fn add_items(items: Items<'_>, signers: u64) -> Result<Amount, Refusal>
+fn add_items(items: Items<'_>, signers: u64) -> Tally
     ensures number { code result ≡ items_number items.entry.count items.entry.rec.now signers 0 }
     ensures total { IfOk result (λ t. biased t ≡ bias + items_sum items.entry.count items.entry.rec.now 0) }
 {

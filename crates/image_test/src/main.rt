@@ -43,13 +43,20 @@ fn fill_tokens(image: &mut Image) {
     amount::write_amount(image, 20496, Amount::from(5));
 }
 
-// The image with one byte changed; at a place past its end, which the lists below have none of, it stays as it is.
-fn try_byte(rt: &impl Print, image: &Image, at: usize, byte: u8) -> io::Result<()> {
-    let mut changed = *image;
-    if let Some(place) = changed.get_mut(at) {
-        *place = byte;
+// Puts a byte into the image, and gives the one that stood there; at a place past its end, which the lists below have none of, nothing happens.
+fn exchange(image: &mut Image, at: usize, byte: u8) -> u8 {
+    match image.get_mut(at) {
+        Some(place) => std::mem::replace(place, byte),
+        None => byte,
     }
-    show(rt, image::good_image(&changed))
+}
+
+// The image with one byte changed; the byte is put back.
+fn try_byte(rt: &impl Print, image: &mut Image, at: usize, byte: u8) -> io::Result<()> {
+    let old = exchange(image, at, byte);
+    let shown = show(rt, image::good_image(image));
+    exchange(image, at, old);
+    shown
 }
 
 // Flags and addresses; limits, pending owner and migration; any approved set is good.
@@ -93,7 +100,7 @@ const TOKENS: [(usize, u8); 10] = [
 ];
 
 // A line for the changes, each of the whole image.
-fn damage(rt: &impl Print, image: &Image, changes: &[(usize, u8)]) -> io::Result<()> {
+fn damage(rt: &impl Print, image: &mut Image, changes: &[(usize, u8)]) -> io::Result<()> {
     for &(at, byte) in changes {
         try_byte(rt, image, at, byte)?;
     }
@@ -101,7 +108,7 @@ fn damage(rt: &impl Print, image: &Image, changes: &[(usize, u8)]) -> io::Result
 }
 
 // An image of zeros, and a part of it.
-fn empty(rt: &impl Print, image: &Image) -> io::Result<()> {
+fn empty(rt: &impl Print, image: &mut Image) -> io::Result<()> {
     show(rt, image::good_image(image))?;
     show(rt, image::good_image(&image[0..36831]))?;
     show(rt, image::good_image(&image[0..0]))?;
@@ -119,9 +126,9 @@ fn fill(rt: &impl Print, image: &mut Image) -> io::Result<()> {
 
 fn main(rt: HostRuntime) -> io::Result<()> {
     let mut image = [0u8; image::LENGTH];
-    empty(&rt, &image)?;
+    empty(&rt, &mut image)?;
     fill(&rt, &mut image)?;
-    damage(&rt, &image, &HEAD)?;
-    damage(&rt, &image, &CAPS)?;
-    damage(&rt, &image, &TOKENS)
+    damage(&rt, &mut image, &HEAD)?;
+    damage(&rt, &mut image, &CAPS)?;
+    damage(&rt, &mut image, &TOKENS)
 }

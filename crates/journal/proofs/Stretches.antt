@@ -7,13 +7,15 @@ use Prim.Native.Nat.{ℕ, zero, suc, ◌+◌, ◌*◌, ◌-◌, ◌/◌, ◌≤�
 use native.Mathlib.Nat.{zero-add, add-zero, suc-add}
 use native.Mathlib.Omega.{arith}
 use lib.Dec.{eqb, leb}
-use lib.ListN.{length, take, drop, length-append, length-take, length-drop, take-append-drop, drop_of_length-le}
-use lib.Seq.{take_all, take_at, drop_at, take-take, take-append-le, take-append-add, drop-drop}
+use lib.ListN.{length, get_or, take, drop, length-append, length-take, length-drop, take-append-drop, drop_of_length-le}
+use lib.Seq.{take_all, take_at, drop_at, take-take, take-append-le, take-append-add, take-add, drop-drop}
 use borrow.Author.Tests.{leb-true, leb-false, le-leb}
 use Rattle.std.specs.Cmp.Lexicographic.{pointwise}
-use Rattle.fields.specs.Logic.{and_is}
+use Rattle.fields.specs.Bytes.{le}
+use Rattle.fields.specs.Logic.{◌and◌, and_is}
 use Rattle.fields.specs.Rules.{pick}
-use Rattle.fields.specs.Same.{same_bytes_of, same_is, same_refl}
+use Rattle.fields.specs.Same.{same_bytes_of, same_is, same_refl, same-append}
+use Rattle.fields.proofs.Loops.{le_same}
 use Rattle.journal.specs.Journal.{Entry, entry_bytes, entries_bytes, changed}
 use Rattle.journal.specs.Parts.{place_at, over, Found}
 use Rattle.fields.specs.Chunks.{drop_take}
@@ -21,6 +23,32 @@ use Rattle.journal.proofs.Written.{length_entries}
 use Rattle.journal.proofs.Cells.{changed_order}
 use Rattle.journal.proofs.Backwards.{order_front}
 use Rattle.journal.proofs.Layouts.{entries_append}
+
+-- two words of each image
+pub two_words : (a b : List ℕ) (at x y u v : ℕ) → ((i : ℕ) → get_or a i 0 < 256) → ((i : ℕ) → get_or b i 0 < 256) → at + 16 ≤ length a → at + 16 ≤ length b
+    → x ≡ le 8 a at → y ≡ le 8 b at → u ≡ le 8 a (at + 8) → v ≡ le 8 b (at + 8)
+    → eqb x y and eqb u v ≡ same_bytes_of (take 16 (drop at a)) (take 16 (drop at b))
+two_words a b at x y u v ha hb la lb ex ey eu ev =
+    let l : length (take 8 (drop at a)) ≡ length (take 8 (drop at b)) = simp (length-take, length-drop) (omega arith) in
+    rw (
+      ex,
+      ey,
+      eu,
+      ev,
+      take-add 8 8 (drop at a),
+      take-add 8 8 (drop at b),
+      drop-drop 8 at a,
+      drop-drop 8 at b,
+      same-append (take 8 (drop at a)) (take 8 (drop at b)) (take 8 (drop (at + 8) a)) (take 8 (drop (at + 8) b)) l,
+      le_same 8 a b at ha hb (omega arith) (omega arith),
+      le_same 8 a b (at + 8) ha hb (omega arith) (omega arith),
+    )
+
+-- the same of two cells alone, by which the edits of `same_cell` compare words
+pub two_words_alone : (a b : List ℕ) {x y u v : ℕ} → ((i : ℕ) → get_or a i 0 < 256) → ((i : ℕ) → get_or b i 0 < 256) → length a ≡ 16 → length b ≡ 16
+    → x ≡ le 8 a 0 → y ≡ le 8 b 0 → u ≡ le 8 a 8 → v ≡ le 8 b 8 → eqb x y and eqb u v ≡ same_bytes_of a b
+two_words_alone a b {x} {y} {u} {v} ha hb la lb ex ey eu ev =
+    two_words a b 0 x y u v ha hb (omega arith) (omega arith) ex ey eu ev ∙ rw (take_all 16 a (omega arith), take_all 16 b (omega arith)) refl
 
 -- what `==` of two cells says
 pub pointwise_same : (a b : List ℕ) → pointwise eqb a b ≡ same_bytes_of a b

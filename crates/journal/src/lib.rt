@@ -248,7 +248,6 @@ fn place_at(n: usize, len: usize) -> usize
     len.min(24 * n)
 }
 
-#[tactic(auto, using(crate::proofs::Stretches::pointwise_same))]
 fn same_cell(old: &[u8; 16], new: &[u8; 16]) -> bool
     ensures { result ≡ same_bytes_of old.now new.now }
 {

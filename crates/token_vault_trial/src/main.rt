@@ -4,7 +4,6 @@
 
 ghost use Rattle.std.specs.Prelude.{◌≡◌, ◌+◌, ◌<◌, ◌≤◌, Some, IfOk, OnOk};
 ghost use Rattle.std.specs.Io.KnownBytes.{Appends};
-ghost use Rattle.std.specs.Fmt.{with_newline};
 ghost use Rattle.trial_records.specs.Trial.{records_from, reached_from};
 ghost use Rattle.token_vault_trial.specs.Arguments.{read_decimal, fault_text, fault_line};
 ghost use Rattle.token_vault_trial.specs.Run.{reading_of, number_or_zero, number_of, code, fault_of, IsOrder, IsPiece, RunIs};
@@ -172,16 +171,19 @@ fn write_records<O: Write>(output: &mut O, asked: Records) -> io::Result<u64>
 }
 
 // Every byte of standard error goes through here, and all of them are the line of a fault.
-#[tactic(auto, using(streams::specs::Lines::known_line))]
-fn write_fault_line<E: Write, D: fmt::Display>(
-    error: &mut E,
-    line: &D,
-    fault: Fault,
-) -> io::Result<()>
-    requires { with_newline (D.output line.now) ≡ Some (fault_line (number_of fault)) }
+fn write_fault_line<E: Write>(error: &mut E, line: &[u8], fault: Fault) -> io::Result<()>
+    requires { line.now ≡ fault_line (number_of fault) }
     ensures { OnOk result (Appends (E.contents error.old) (E.contents error.new) (fault_line (number_of fault))) }
 {
-    streams::print_line::<128, _, _>(error, line)
+    error.write_all(line)
+}
+
+#[tactic(auto, using(streams::specs::Lines::known_line))]
+fn write_fault<E: Write>(error: &mut E, fault: Fault) -> io::Result<()>
+    ensures { OnOk result (Appends (E.contents error.old) (E.contents error.new) (fault_line (number_of fault))) }
+{
+    let line = streams::line::<128, _>(&format_args!("token_vault_trial: {fault}"))?;
+    write_fault_line(error, line.as_str().as_bytes(), fault)
 }
 
 fn run<O: Write, E: Write>(output: &mut O, error: &mut E, arguments: Arguments) -> io::Result<u64>
@@ -194,7 +196,7 @@ fn run<O: Write, E: Write>(output: &mut O, error: &mut E, arguments: Arguments) 
     match arguments.records() {
         Ok(records) => write_records(output, records),
         Err(fault) => {
-            write_fault_line(error, &format_args!("token_vault_trial: {fault}"), fault)?;
+            write_fault(error, fault)?;
             Ok(0)
         }
     }

@@ -1,5 +1,6 @@
--- What is read of a call and of a list: their heads as structs, and the faults of what was read.
-use Rattle.std.specs.Prelude.{◌≡◌, List, ℕ, ◌<◌, not, eqb, length, take, get_or, Result, Ok, Err, IfOk}
+-- What is read of a call and of a list: their heads as structs, and the faults of what was read. `before` and `after` are what the input has left before and after a read, where that is known.
+use Rattle.std.specs.Prelude.{◌≡◌, List, ◌++◌, ℕ, ◌<◌, ◌≤◌, not, eqb, length, take, get_or, Option, Result, Ok, Err, IfOk}
+use Rattle.std.specs.Io.KnownBytes.{Consumes}
 use Rattle.fields.specs.Bytes.{le}
 use Rattle.fields.specs.Rules.{pick}
 use Rattle.journal.specs.Calls.{State}
@@ -30,28 +31,38 @@ pub record ListHeadOf (h : List ℕ) (head : ListHead) : Type 0 where
   pub journal_length : head.journal_length ≡ le 4 h 4
   pub count : head.count ≡ le 4 h 8
 
--- some of the bytes of a buffer were read, and the fault is `cut` unless it was all of them
-pub record ReadsWhole (all cut fault : ℕ) : Type 0 where
+-- `read` bytes were read, to the start of a buffer, and the fault is `cut` unless they are all of it
+pub record ReadsWhole (before after : Option (List ℕ)) (buffer : List ℕ) (cut fault : ℕ) : Type 0 where
   pub read : ℕ
-  pub decided : fault ≡ pick (not (eqb read all)) cut 0
+  pub within : read ≤ length buffer
+  pub consumed : Consumes before after (take read buffer)
+  pub decided : fault ≡ pick (not (eqb read (length buffer))) cut 0
 
--- some bytes of a head and of a record were read
-pub record ReadsCall (r : Result CallHead Fault) : Type 0 where
+-- a head was read, or what there was of it, and record_read bytes of a record, to the start of a buffer
+pub record ReadsCall (before after : Option (List ℕ)) (buffer : List ℕ) (r : Result CallHead Fault) : Type 0 where
   pub head : List ℕ
+  pub head_within : length head ≤ 8
   pub record_read : ℕ
+  pub record_within : record_read ≤ length buffer
+  pub consumed : Consumes before after (head ++ take record_read buffer)
   pub decided : code r ≡ call_fault (length head) head record_read
   pub parsed : IfOk r (λ c. CallHeadOf head c)
 
--- a call was read, and answered where it has no fault: `Printed` holds of its line
-pub record TakesCall (s : State) (fault : ℕ) (image journal : List ℕ) (Printed : List ℕ → Type 0) : Type 0 where
+-- a call was read, its record to the start of a buffer, and answered where it has no fault: `Printed` holds of its line
+pub record TakesCall (before after : Option (List ℕ)) (s : State) (buffer : List ℕ) (fault : ℕ) (image journal : List ℕ) (Printed : List ℕ → Type 0) : Type 0 where
   pub head : List ℕ
+  pub head_within : length head ≤ 8
   pub record_read : ℕ
-  pub buffer : List ℕ
+  pub record_within : record_read ≤ length buffer
+  pub consumed : Consumes before after (head ++ take record_read buffer)
   pub answered : AnswersCall s (length head) head record_read buffer fault (step_line (request_step s (request_of head (take record_read buffer)))) image journal
   pub printed : fault ≡ 0 → Printed (step_line (request_step s (request_of head (take record_read buffer))))
 
--- some bytes of image and journal were read
-pub record ReadsState (s : State) (fault : ℕ) : Type 0 where
+-- so many bytes were read of an image and then of a journal
+pub record ReadsState (before after : Option (List ℕ)) (s : State) (fault : ℕ) : Type 0 where
   pub image_read : ℕ
+  pub image_within : image_read ≤ length s.image
   pub journal_read : ℕ
+  pub journal_within : journal_read ≤ length s.journal
+  pub consumed : Consumes before after (take image_read s.image ++ take journal_read s.journal)
   pub decided : fault ≡ state_fault image_read journal_read s

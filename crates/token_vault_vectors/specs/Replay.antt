@@ -1,5 +1,7 @@
--- What is made of the bytes that are read: a call, the calls of a list, a list, and all lists (docs/VECTORS.md).
-use Rattle.std.specs.Prelude.{◌≡◌, Bool, false, List, ◌⊎◌, ℕ, ◌≤◌, ◌<◌, eqb, length, take, get_or, replicate, refl}
+-- What is made of the bytes that are read: a call, the calls of a list, a list, and all lists (docs/VECTORS.md). `input` is what there is to read, and `left` what then is left of it, where that is known.
+use Rattle.std.specs.Prelude.{◌≡◌, Bool, false, List, ◌++◌, map, Option, ◌⊎◌, ℕ, ◌≤◌, ◌<◌, eqb, length, take, drop, get_or, replicate, refl}
+use Rattle.std.specs.List.{concat}
+use Rattle.std.specs.Io.KnownBytes.{Consumes}
 use Rattle.std.proofs.Common.{sym}
 use Rattle.fields.specs.Bytes.{le}
 use Rattle.fields.specs.Rules.{pick}
@@ -56,59 +58,75 @@ pub record AnswersCall (s : State) (head_read : ℕ) (h : List ℕ) (record_read
   pub whole : fault ≡ 0 → PrintsStep (request_step s (request_of h (take record_read b))) text image journal
   pub other : (fault ≡ 0 → ⊥) → vault image journal ≡ s
 
--- a call was read that has this fault
-pub record IsCallFault (fault : ℕ) : Type 0 where
-  pub head_read : ℕ
+-- a call was read that has this fault: its head, or what there was of it, and what was read of its record
+pub record IsCallFault (input : Option (List ℕ)) (fault : ℕ) : Type 0 where
   pub head : List ℕ
-  pub record_read : ℕ
-  pub decided : fault ≡ call_fault head_read head record_read
+  pub part : List ℕ
+  pub left : Option (List ℕ)
+  pub consumed : Consumes input left (head ++ part)
+  pub decided : fault ≡ call_fault (length head) head (length part)
   pub some : 0 < fault
 
--- ---- the calls of a list, in order: as many as the list has, unless one has a fault or its line was not written
-pub record TakesCalls (before after : State) (count taken fault : ℕ) (is_written : Bool) : Type 0 where
-  pub calls : List Request
+-- what is asked by the bytes of a call, its head and then its record
+unfoldable pub request_in : List ℕ → Request
+request_in c = request_of (take 8 c) (drop 8 c)
+
+-- ---- the calls of a list, in order as the input has them: as many as the list has, unless one has a fault or its line was not written
+pub record TakesCalls (input : Option (List ℕ)) (before after : State) (count taken fault : ℕ) (is_written : Bool) : Type 0 where
+  pub calls : List (List ℕ)
   pub counted : length calls ≡ taken
   pub within : taken ≤ count
-  pub carried : after ≡ run_requests before calls
-  pub ended : ((taken ≡ count) × (fault ≡ 0)) ⊎ (IsCallFault fault ⊎ ((is_written ≡ false) × (fault ≡ 0)))
+  pub left : Option (List ℕ)
+  pub consumed : Consumes input left (concat calls)
+  pub carried : after ≡ run_requests before (map request_in calls)
+  pub ended : ((taken ≡ count) × (fault ≡ 0)) ⊎ (IsCallFault left fault ⊎ ((is_written ≡ false) × (fault ≡ 0)))
 
 -- the calls are taken where image and journal were read whole
-pub record TakesState (before after : State) (image_read journal_read count taken fault : ℕ) (is_written : Bool) : Type 0 where
-  pub whole : state_fault image_read journal_read before ≡ 0 → TakesCalls before after count taken fault is_written
+pub record TakesState (input : Option (List ℕ)) (before after : State) (image_read journal_read count taken fault : ℕ) (is_written : Bool) : Type 0 where
+  pub whole : state_fault image_read journal_read before ≡ 0 → TakesCalls input before after count taken fault is_written
   pub other : (state_fault image_read journal_read before ≡ 0 → ⊥) → (after ≡ before) × (fault ≡ state_fault image_read journal_read before) × (taken ≡ 0)
 
--- image and journal after a list of `count` calls: some bytes were read, and the calls taken from there
-pub record RunsList (image journal : List ℕ) (count taken fault : ℕ) (is_written : Bool) : Type 0 where
+-- image and journal after a list of `count` calls: so many bytes were read of each, and the calls taken from there
+pub record RunsList (input : Option (List ℕ)) (image journal : List ℕ) (count taken fault : ℕ) (is_written : Bool) : Type 0 where
   pub before : State
   pub image_length : length before.image ≡ length image
   pub journal_length : length before.journal ≡ length journal
   pub image_read : ℕ
+  pub image_within : image_read ≤ length before.image
   pub journal_read : ℕ
-  pub taken_from : TakesState before (vault image journal) image_read journal_read count taken fault is_written
+  pub journal_within : journal_read ≤ length before.journal
+  pub left : Option (List ℕ)
+  pub consumed : Consumes input left (take image_read before.image ++ take journal_read before.journal)
+  pub taken_from : TakesState left before (vault image journal) image_read journal_read count taken fault is_written
 
 -- ---- a list, whose head is h: image and journal stand at the start of their buffers
-pub record TakesList (head_read : ℕ) (h image journal : List ℕ) (taken fault : ℕ) (is_written : Bool) : Type 0 where
-  pub whole : head_fault head_read h ≡ 0 → RunsList (take (le 4 h 0) image) (take (le 4 h 4) journal) (le 4 h 8) taken fault is_written
+pub record TakesList (input : Option (List ℕ)) (head_read : ℕ) (h image journal : List ℕ) (taken fault : ℕ) (is_written : Bool) : Type 0 where
+  pub whole : head_fault head_read h ≡ 0 → RunsList input (take (le 4 h 0) image) (take (le 4 h 4) journal) (le 4 h 8) taken fault is_written
   pub other : (head_fault head_read h ≡ 0 → ⊥) → (fault ≡ head_fault head_read h) × (taken ≡ 0)
 
 -- the same with a journal of the function's own
-pub record WithJournal (head_read : ℕ) (h image : List ℕ) (taken fault : ℕ) (is_written : Bool) : Type 0 where
+pub record WithJournal (input : Option (List ℕ)) (head_read : ℕ) (h image : List ℕ) (taken fault : ℕ) (is_written : Bool) : Type 0 where
   pub journal : List ℕ
-  pub listed : TakesList head_read h image journal taken fault is_written
+  pub listed : TakesList input head_read h image journal taken fault is_written
 
 -- the same with head and image of the function's own as well; where none of the head was read there is no list, and nothing is wrong
-pub record NextList (head_read taken fault : ℕ) (is_written : Bool) : Type 0 where
+pub record NextList (input : Option (List ℕ)) (head_read taken fault : ℕ) (is_written : Bool) : Type 0 where
   pub head : List ℕ
+  pub counted : length head ≡ head_read
+  pub within : head_read ≤ 16
+  pub left : Option (List ℕ)
+  pub consumed : Consumes input left head
   pub image : List ℕ
   pub none : head_read ≡ 0 → (fault ≡ 0) × (taken ≡ 0)
-  pub listed : (head_read ≡ 0 → ⊥) → WithJournal head_read head image taken fault is_written
+  pub listed : (head_read ≡ 0 → ⊥) → WithJournal left head_read head image taken fault is_written
 
 -- a list was read that has this fault
 pub record IsFault (fault : ℕ) : Type 0 where
+  pub input : Option (List ℕ)
   pub head_read : ℕ
   pub taken : ℕ
   pub is_written : Bool
-  pub listed : NextList head_read taken fault is_written
+  pub listed : NextList input head_read taken fault is_written
   pub some : 0 < fault
 
 -- ---- all lists: until the input ends where a list's head would begin, a list has a fault, a line was not written, or 2 ^ 64 - 1 were taken

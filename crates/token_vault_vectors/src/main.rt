@@ -1,9 +1,8 @@
 // Replays the vectors of docs/VECTORS.md: lists of calls from standard input, a line a call to standard output. The stored lines are those of the contract's Rust and of the model. At malformed input the run ends with a line to standard error.
 #![tactic(auto)]
 
-ghost use Rattle.std.specs.Prelude.{◌≡◌, ◌++◌, [], ◌∷◌, length, take, replicate, ltb, Some, Err, IfOk, OnOk};
+ghost use Rattle.std.specs.Prelude.{◌≡◌, ◌<◌, ◌++◌, [], ◌∷◌, length, take, replicate, ltb, Some, Err, IfOk, OnOk};
 ghost use Rattle.std.specs.Io.KnownBytes.{Appends};
-ghost use Rattle.std.specs.Fmt.{with_newline};
 ghost use Rattle.fields.specs.Logic.{◌and◌, ◌or◌};
 ghost use Rattle.journal.specs.Step.{vault};
 ghost use Rattle.token_vault.specs.Preview.{request_step};
@@ -119,24 +118,24 @@ fn answer_call(
     record: &[u8; 512],
     events: &mut [u8; 1024],
 ) -> StepLine
-    ensures { PrintsStep (request_step (vault image.old journal.old) (asked head.kind (take head.record_length «record».now) (replicate head.events_length head.fill))) (text_of result ++ (10 ∷ [])) image.new journal.new }
+    ensures { PrintsStep (request_step (vault image.old journal.old) (asked head.kind (take head.record_length «record».now) (replicate head.events_length head.fill))) (text_of result ++ (10 ∷ [])) image.new journal.new × (length (text_of result) < 512) }
 {
     let record = &record[..head.record_length];
     let events = &mut events[..head.events_length];
     events.fill(head.fill);
     match head.kind {
         Kind::Operation => vault_vectors::answer_operation(image, journal, record, events),
-        Kind::Transaction(kind) => vault_vectors::answer_transaction(image, journal, kind),
+        Kind::Transaction(kind) => kind.answer(image, journal),
         Kind::Preview => vault_vectors::answer_preview(image, journal, record, events),
     }
 }
 
 // Every byte of standard output goes through here, and all of them are lines of steps.
-fn write_step_line<O: Write>(output: &mut O, line: &StepLine) -> io::Result<()>
-    requires { IsStepLine (text_of line.now ++ (10 ∷ [])) }
-    ensures { OnOk result (Appends (O.contents output.old) (O.contents output.new) (text_of line.now ++ (10 ∷ []))) }
+fn write_step_line<O: Write>(output: &mut O, line: &[u8]) -> io::Result<()>
+    requires { IsStepLine line.now }
+    ensures { OnOk result (Appends (O.contents output.old) (O.contents output.new) line.now) }
 {
-    streams::print_line::<512, _, _>(output, line)
+    output.write_all(line)
 }
 
 impl CallHead {
@@ -174,7 +173,7 @@ impl CallHead {
 
 // A buffer that is not read to its end has the fault `cut`.
 fn read_whole<I: Read>(input: &mut I, buffer: &mut [u8], cut: Fault) -> Result<(), Fault>
-    ensures { ReadsWhole (length buffer.new) (number_of cut) (code result) }
+    ensures { ReadsWhole (I.remaining input.old) (I.remaining input.new) buffer.new (number_of cut) (code result) }
 {
     if streams::read_full(input, buffer) != buffer.len() {
         return Err(cut);
@@ -184,7 +183,7 @@ fn read_whole<I: Read>(input: &mut I, buffer: &mut [u8], cut: Fault) -> Result<(
 
 // A record is read where nothing is wrong with the head.
 fn read_call<I: Read>(input: &mut I, record: &mut [u8; 512]) -> Result<CallHead, Fault>
-    ensures { ReadsCall result }
+    ensures { ReadsCall (I.remaining input.old) (I.remaining input.new) «record».new result }
 {
     let mut bytes = [0u8; 8];
     let n = streams::read_full(input, &mut bytes);
@@ -216,12 +215,13 @@ fn next_call<I: Read, O: Write>(
     journal: &mut [u8],
     buffers: &mut CallBuffers,
 ) -> Result<(), Stop>
-    ensures { TakesCall (vault image.old journal.old) (fault_of result) image.new journal.new (λ line. OnOk result (Appends (O.contents output.old) (O.contents output.new) line)) }
+    ensures { TakesCall (I.remaining input.old) (I.remaining input.new) (vault image.old journal.old) buffers.new.«record» (fault_of result) image.new journal.new (λ line. OnOk result (Appends (O.contents output.old) (O.contents output.new) line)) }
 {
     let CallBuffers { record, events } = buffers;
     let head = read_call(input, record)?;
-    let line = answer_call(image, journal, head, record, events);
-    write_step_line(output, &line)?;
+    let answer = answer_call(image, journal, head, record, events);
+    let line = streams::line::<512, _>(&answer)?;
+    write_step_line(output, line.as_str().as_bytes())?;
     Ok(())
 }
 
@@ -252,7 +252,7 @@ fn all_calls<I: Read, O: Write>(
     journal: &mut [u8],
     count: u32,
 ) -> TakenCalls
-    ensures { TakesCalls (vault image.old journal.old) (vault image.new journal.new) count result.taken (fault_of result.ended) (is_written result.ended) }
+    ensures { TakesCalls (I.remaining input.old) (vault image.old journal.old) (vault image.new journal.new) count result.taken (fault_of result.ended) (is_written result.ended) }
 {
     let mut buffers = CallBuffers::new();
     for taken in 0..count {
@@ -274,8 +274,9 @@ fn all_calls<I: Read, O: Write>(
     }
 }
 
+#[tactic(auto, using(crate::proofs::Parsed::image_cut, crate::proofs::Parsed::state_read))]
 fn read_state<I: Read>(input: &mut I, image: &mut [u8], journal: &mut [u8]) -> Result<(), Fault>
-    ensures { ReadsState (vault image.new journal.new) (code result) }
+    ensures { ReadsState (I.remaining input.old) (I.remaining input.new) (vault image.new journal.new) (code result) }
 {
     read_whole(input, image, Fault::ImageCut)?;
     read_whole(input, journal, Fault::JournalCut)
@@ -289,7 +290,7 @@ fn run_list<I: Read, O: Write>(
     journal: &mut [u8],
     count: u32,
 ) -> TakenCalls
-    ensures { RunsList image.new journal.new count result.taken (fault_of result.ended) (is_written result.ended) }
+    ensures { RunsList (I.remaining input.old) image.new journal.new count result.taken (fault_of result.ended) (is_written result.ended) }
 {
     match read_state(input, image, journal) {
         Ok(()) => all_calls(input, output, image, journal, count),
@@ -334,7 +335,7 @@ fn fit_list<I: Read, O: Write>(
     journal: &mut [u8; 48048],
     head: &[u8],
 ) -> TakenCalls
-    ensures { TakesList (length head.now) head.now image.new journal.new result.taken (fault_of result.ended) (is_written result.ended) }
+    ensures { TakesList (I.remaining input.old) (length head.now) head.now image.new journal.new result.taken (fault_of result.ended) (is_written result.ended) }
 {
     match ListHead::parse(head) {
         Ok(head) => {
@@ -353,7 +354,7 @@ fn with_journal<I: Read, O: Write>(
     image: &mut [u8; 36848],
     head: &[u8],
 ) -> TakenCalls
-    ensures { WithJournal (length head.now) head.now image.new result.taken (fault_of result.ended) (is_written result.ended) }
+    ensures { WithJournal (I.remaining input.old) (length head.now) head.now image.new result.taken (fault_of result.ended) (is_written result.ended) }
 {
     let mut journal = [0u8; 48048];
     fit_list(input, output, image, &mut journal, head)
@@ -368,7 +369,7 @@ struct TakenList {
 
 // Where none of the head was read the input ends, and there is no list.
 fn next_list<I: Read, O: Write>(input: &mut I, output: &mut O) -> TakenList
-    ensures { NextList result.head_read result.calls.taken (fault_of result.calls.ended) (is_written result.calls.ended) }
+    ensures { NextList (I.remaining input.old) result.head_read result.calls.taken (fault_of result.calls.ended) (is_written result.calls.ended) }
 {
     let mut head = [0u8; 16];
     let mut image = [0u8; 36848];
@@ -417,23 +418,20 @@ fn all_lists<I: Read, O: Write>(input: &mut I, output: &mut O) -> TakenLists
 }
 
 // Every byte of standard error goes through here, and all of them are the line of a fault that a list has.
-#[tactic(auto, using(streams::specs::Lines::known_line))]
-fn write_fault_line<E: Write, D: fmt::Display>(
-    error: &mut E,
-    line: &D,
-    fault: Fault,
-) -> io::Result<()>
-    requires { (with_newline (D.output line.now) ≡ Some (fault_line (number_of fault))) × IsFault (number_of fault) }
+fn write_fault_line<E: Write>(error: &mut E, line: &[u8], fault: Fault) -> io::Result<()>
+    requires { (line.now ≡ fault_line (number_of fault)) × IsFault (number_of fault) }
     ensures { OnOk result (Appends (E.contents error.old) (E.contents error.new) (fault_line (number_of fault))) }
 {
-    streams::print_line::<128, _, _>(error, line)
+    error.write_all(line)
 }
 
+#[tactic(auto, using(streams::specs::Lines::known_line))]
 fn write_fault<E: Write>(error: &mut E, fault: Fault) -> io::Result<()>
     requires { IsFault (number_of fault) }
     ensures { OnOk result (Appends (E.contents error.old) (E.contents error.new) (fault_line (number_of fault))) }
 {
-    write_fault_line(error, &format_args!("token_vault_vectors: {fault}"), fault)
+    let line = streams::line::<128, _>(&format_args!("token_vault_vectors: {fault}"))?;
+    write_fault_line(error, line.as_str().as_bytes(), fault)
 }
 
 fn main(rt: HostRuntime) {

@@ -32,28 +32,28 @@ pub fn printed(answer: outcome::Answer) -> Answer
 
 // What is printed for a record. Any record, also a short one, gets its line.
 pub fn answer_record(image: &mut [u8], record: &[u8]) -> Answer
-    ensures { Prints (record_step image.old «record».now) (text_of result) image.new }
+    ensures { Prints (record_step image.old «record».now) (text_of result) image.new × (length (text_of result) ≤ 160) }
 {
     let mut events = [0u8; events::LENGTH];
     printed(token_vault::call_without_journal(image, record, &mut events))
 }
 
 // Every byte of the output goes through here, and all of them are lines of answers.
-#[tactic(auto, using(crate::proofs::Lines::line_end, streams::specs::Lines::same_line))]
-fn write_answer_line<O: Write>(output: &mut O, answer: &Answer) -> io::Result<()>
-    requires { IsLine (text_of answer.now) }
-    ensures { OnOk result (Appends (O.contents output.old) (O.contents output.new) (text_of answer.now)) }
+fn write_answer_line<O: Write>(output: &mut O, line: &[u8]) -> io::Result<()>
+    requires { IsLine line.now }
+    ensures { OnOk result (Appends (O.contents output.old) (O.contents output.new) line.now) }
 {
-    streams::print_line::<160, _, _>(output, answer)
+    output.write_all(line)
 }
 
-#[tactic(auto, using(streams::specs::Lines::same_line))]
+#[tactic(auto, using(crate::proofs::Lines::line_end, streams::specs::Lines::same_line))]
 fn print_answer<O: Write>(output: &mut O, image: &mut [u8], record: &[u8]) -> io::Result<()>
     ensures carried { image.new ≡ (record_step image.old «record».now).state.image }
     ensures printed { OnOk result (Appends (O.contents output.old) (O.contents output.new) (answer_line (record_step image.old «record».now).answer)) }
 {
     let answer = answer_record(image, record);
-    write_answer_line(output, &answer)
+    let line = streams::line::<160, _>(&answer)?;
+    write_answer_line(output, line.as_str().as_bytes())
 }
 
 // Answers what was read of a record. Where nothing was there is no line.
@@ -92,10 +92,10 @@ fn next_record<I: Read, O: Write>(
 
 // How many records were taken, how many bytes the last read gave, and whether the last line was written.
 #[derive(Drop)]
-pub struct TakenRecords {
-    pub taken: u64,
-    pub read: usize,
-    pub written: io::Result<()>,
+struct TakenRecords {
+    taken: u64,
+    read: usize,
+    written: io::Result<()>,
 }
 
 // A proved loop has to end: it stops at a number of records that no run reaches.
@@ -144,21 +144,25 @@ fn run_image<I: Read, O: Write>(input: &mut I, output: &mut O, image: &mut [u8])
     all_records(input, output, image)
 }
 
-// How many bytes were read of the image, and the records after a whole one.
-#[derive(Drop)]
+// How many bytes were read of the image; and of the records after a whole one, how many were taken and how many bytes the last read gave.
+#[derive(Clone, Copy)]
 pub struct Run {
     pub image_read: usize,
-    pub records: TakenRecords,
+    pub taken: u64,
+    pub read: usize,
+    pub is_written: bool,
 }
 
 pub fn main_loop<I: Read, O: Write>(input: &mut I, output: &mut O) -> Run
-    ensures { Runs result.image_read result.records.taken result.records.read (is_ok result.records.written) }
+    ensures { Runs result.image_read result.taken result.read result.is_written }
 {
     let mut image = [0u8; image::LENGTH];
     let image_read = streams::read_full(input, &mut image);
     let records = run_image(input, output, &mut image[..image_read]);
     Run {
         image_read,
-        records,
+        taken: records.taken,
+        read: records.read,
+        is_written: records.written.is_ok(),
     }
 }

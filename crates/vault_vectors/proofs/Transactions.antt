@@ -4,6 +4,7 @@ use mathlib.Core.Bool.{Bool, true, false}
 use mathlib.Core.List.{List, []}
 use Prim.Native.Nat.{ℕ, zero, suc}
 use lib.Dec.{eqb}
+use borrow.Author.Tests.{ne_eqb}
 use Rattle.fields.specs.Rules.{pick}
 use Rattle.image.specs.Layout.{cells}
 use Rattle.image.specs.Good.{good_image}
@@ -77,3 +78,7 @@ is_rollback = refl
 pub is_undo : transaction 4 ≡ Call.undo
 unfolding transaction
 is_undo = refl
+
+pub other_undone : (kind : ℕ) → (kind ≡ 1 → ⊥) → (kind ≡ 2 → ⊥) → (kind ≡ 3 → ⊥) → transaction 4 ≡ transaction kind
+unfolding transaction
+other_undone kind a b c = rw (ne_eqb kind 1 a, ne_eqb kind 2 b, ne_eqb kind 3 c) refl

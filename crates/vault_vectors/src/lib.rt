@@ -1,7 +1,7 @@
 // The line of a call of the vectors: its answer, and the digests of event buffer, image and journal after it (docs/VECTORS.md).
 #![tactic(auto)]
 
-ghost use Rattle.std.specs.Prelude.{◌≡◌, ◌++◌, [], ◌∷◌, Some};
+ghost use Rattle.std.specs.Prelude.{◌≡◌, ◌<◌, ◌++◌, [], ◌∷◌, Some, length};
 ghost use Rattle.answer_line.specs.Decimal.{answer_words};
 ghost use Rattle.events.specs.Splice.{amount_bytes};
 ghost use Rattle.journal.specs.Calls.{Call};
@@ -44,7 +44,8 @@ impl fmt::Display for StepLine {
 }
 
 fn step_line(answer: outcome::Answer, events: &[u8], image: &[u8], journal: &[u8]) -> StepLine
-    ensures { text_of result ++ (10 ∷ []) ≡ answer_words (code answer) (signed_at (amount_bytes (value_of answer))) (count_of answer) (digests events.now image.now journal.now) }
+    ensures words { text_of result ++ (10 ∷ []) ≡ answer_words (code answer) (signed_at (amount_bytes (value_of answer))) (count_of answer) (digests events.now image.now journal.now) }
+    ensures short { length (text_of result) < 512 }
 {
     StepLine {
         answer: vault_program::printed(answer),
@@ -60,7 +61,7 @@ pub fn answer_operation(
     record: &[u8],
     events: &mut [u8],
 ) -> StepLine
-    ensures { PrintsStep (vault_step (vault image.old journal.old) (Call.operation «record».now events.old)) (text_of result ++ (10 ∷ [])) image.new journal.new }
+    ensures { PrintsStep (vault_step (vault image.old journal.old) (Call.operation «record».now events.old)) (text_of result ++ (10 ∷ [])) image.new journal.new × (length (text_of result) < 512) }
 {
     let answer = token_vault::call(image, journal, record, events);
     step_line(answer, events, image, journal)
@@ -68,7 +69,7 @@ pub fn answer_operation(
 
 // The same for the preview of an operation: image and journal are lent to read.
 pub fn answer_preview(image: &[u8], journal: &[u8], record: &[u8], events: &mut [u8]) -> StepLine
-    ensures { PrintsStep (request_step (vault image.now journal.now) (Request.preview «record».now events.old)) (text_of result ++ (10 ∷ [])) image.now journal.now }
+    ensures { PrintsStep (request_step (vault image.now journal.now) (Request.preview «record».now events.old)) (text_of result ++ (10 ∷ [])) image.now journal.now × (length (text_of result) < 512) }
 {
     let answer = token_vault::preview(image, record, events);
     step_line(answer, events, image, journal)
@@ -94,9 +95,32 @@ fn call_transaction(image: &mut [u8], journal: &mut [u8], kind: Transaction) -> 
     }
 }
 
-pub fn answer_transaction(image: &mut [u8], journal: &mut [u8], kind: Transaction) -> StepLine
-    ensures { PrintsStep (vault_step (vault image.old journal.old) (transaction (kind_of kind))) (text_of result ++ (10 ∷ [])) image.new journal.new }
+impl Transaction {
+    pub fn answer(self, image: &mut [u8], journal: &mut [u8]) -> StepLine
+        ensures { PrintsStep (vault_step (vault image.old journal.old) (transaction (kind_of self))) (text_of result ++ (10 ∷ [])) image.new journal.new × (length (text_of result) < 512) }
+    {
+        let answer = call_transaction(image, journal, self).and(Ok(Done::new(0)));
+        step_line(answer, &[], image, journal)
+    }
+}
+
+// Of any number, as `transaction` says of it.
+impl From<u8> for Transaction {
+    ghost from_gives = { λ kind t. transaction (kind_of t) ≡ transaction kind };
+
+    fn from(kind: u8) -> Transaction {
+        match kind {
+            1 => Transaction::Begin,
+            2 => Transaction::Commit,
+            3 => Transaction::Rollback,
+            _ => Transaction::Undo,
+        }
+    }
+}
+
+// The same by the number of a kind.
+pub fn answer_transaction(image: &mut [u8], journal: &mut [u8], kind: u8) -> StepLine
+    ensures { PrintsStep (vault_step (vault image.old journal.old) (transaction kind)) (text_of result ++ (10 ∷ [])) image.new journal.new × (length (text_of result) < 512) }
 {
-    let answer = call_transaction(image, journal, kind).and(Ok(Done::new(0)));
-    step_line(answer, &[], image, journal)
+    Transaction::from(kind).answer(image, journal)
 }

@@ -25,3 +25,8 @@ loop-byte-preserved g c = λ plain.
 pub loop-byte-init : goal.loop-byte-init
 unfolding hexadecimal
 loop-byte-init g c = λ plain. record { wrote = record { parts = []; calls = refl; whole = refl }; plain = plain }
+
+-- a digest's digits, at once
+pub returns-in-Ok-clause-writes : goal.returns-in-Ok-clause-writes
+returns-in-Ok-clause-writes g c = λ plain ok.
+    has_written_of_eq _ _ _ _ _ (c.in-Ok.ensures.cases.0 ∙ c.write_digits.ensures c.if-write_digits.true) (c.write_str.ensures.writes plain ok)

@@ -1,7 +1,0 @@
--- `answer_transaction` meets its contract.
-use Rattle.vault_vectors.proofs.Lines.{transaction_prints}
-use Rattle.vault_vectors.proofs.Transactions.{quiet}
-use Rattle.vault_vectors.proofs.answer_transaction.Goals as goal
-
-pub returns : goal.returns
-returns c = transaction_prints c.call_transaction.result c.new.result c.call_transaction.ensures (quiet _ _) c.new.ensures (rw c.and-answer.ensures at c.step_line.ensures)
